@@ -1,0 +1,6 @@
+pub mod Sums
+pub mod Plane
+pub mod Corners
+pub mod Runs
+pub mod Canonical
+pub mod Optics
