@@ -4,3 +4,4 @@ pub mod Corners
 pub mod Runs
 pub mod Canonical
 pub mod Optics
+pub mod Ranges
