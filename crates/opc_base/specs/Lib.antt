@@ -5,3 +5,4 @@ pub mod Runs
 pub mod Canonical
 pub mod Optics
 pub mod Ranges
+pub mod Rules

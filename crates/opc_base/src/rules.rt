@@ -2,6 +2,7 @@
 ghost use Rattle.std.specs.Prelude.{◌≡◌, ◌≤◌, pos, length, All, IsTrue};
 ghost use Rattle.opc_base.specs.Ranges.{IsBetween, is_name_byte};
 
+use crate::fault::NoMemory;
 use crate::name::Name;
 
 /// Which shapes of the layout are corrected: those on a layer and a datatype, as the structure `top` places them.
@@ -120,4 +121,60 @@ pub struct Rules {
     pub out: OutPick,
     pub ghost same_max_in: { mover.max_in ≡ mask.max_in },
     pub ghost same_max_out: { mover.max_out ≡ mask.max_out },
+}
+
+impl Pick {
+    ghost use Rattle.std.specs.Prelude.{IfOk};
+    ghost use Rattle.opc_base.specs.Rules.{IsSamePick};
+
+    fn copy(&self) -> Result<Pick, NoMemory>
+        ensures { IfOk result (IsSamePick self.now) }
+    {
+        Ok(Pick {
+            top: self.top.clone()?,
+            layer: self.layer,
+            datatype: self.datatype,
+            grid: self.grid,
+        })
+    }
+}
+
+impl OutPick {
+    ghost use Rattle.std.specs.Prelude.{IfOk};
+    ghost use Rattle.opc_base.specs.Rules.{IsSameOutPick};
+
+    fn copy(&self) -> Result<OutPick, NoMemory>
+        ensures { IfOk result (IsSameOutPick self.now) }
+    {
+        Ok(OutPick {
+            layer: self.layer,
+            datatype: self.datatype,
+            name: self.name.clone()?,
+        })
+    }
+}
+
+impl Rules {
+    ghost use Rattle.std.specs.Prelude.{pos, IfOk};
+    ghost use Rattle.opc_base.specs.Ranges.{IsBetween};
+    ghost use Rattle.opc_base.specs.Rules.{DiffersInThreshold};
+
+    /// The same rules with this threshold in place of their own.
+    pub fn with_threshold(&self, threshold: i64) -> Result<Rules, NoMemory>
+        requires { IsBetween (pos 1) (pos 4800000000000000000) threshold }
+        ensures rules { IfOk result (DiffersInThreshold threshold self.now) }
+    {
+        Ok(Rules {
+            pick: self.pick.copy()?,
+            site: SiteRules {
+                threshold,
+                samples: self.site.samples,
+            },
+            cut: self.cut,
+            mover: self.mover,
+            mask: self.mask,
+            run: self.run,
+            out: self.out.copy()?,
+        })
+    }
 }
