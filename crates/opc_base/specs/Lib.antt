@@ -3,6 +3,8 @@ pub mod Plane
 pub mod Corners
 pub mod Runs
 pub mod Canonical
+pub mod Cover
+pub mod Target
 pub mod Optics
 pub mod Ranges
 pub mod Rules

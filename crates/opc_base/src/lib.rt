@@ -4,7 +4,8 @@
 //! covered pixels, which contracts see as a test. The image of a mask is the sum of coherent systems (Cobb 1998): each
 //! kernel sums what the mask passes over its window, and the intensity is the weighted sum of the powers of these sums.
 //!
-//! The definitions stand in `specs/`: `Plane` (sets of pixels), `Optics` (the plain pixel sum).
+//! The definitions stand in `specs/`: `Plane` (sets of pixels), `Canonical` (canonical
+//! rectangles), `Cover` and `Target` (what placed shapes cover), `Optics` (the plain pixel sum).
 #![tactic(auto)]
 
 mod broken;
@@ -13,10 +14,12 @@ mod fault;
 mod kernels;
 mod moves;
 mod name;
+mod outline;
 mod pixes;
 mod plane;
 mod rects;
 mod rules;
+mod region;
 mod text;
 
 pub use broken::{Broken, Place, RuleName};
@@ -25,8 +28,10 @@ pub use fault::NoMemory;
 pub use kernels::{Entries, Entry, Kernel, KernelSet, Kernels};
 pub use moves::{Move, Moved, RoundSummary, Swept, Totals};
 pub use name::Name;
+pub use outline::{Outline, Placed};
 pub use pixes::Pixes;
 pub use plane::{Corner, Pix, Rect, Side};
 pub use rects::Rects;
 pub use rules::{CutRules, MaskRules, MoveRules, OutPick, Pick, Rules, RunRules, SiteRules};
+pub use region::Region;
 pub use text::Text;

@@ -1,0 +1,2 @@
+pub mod CanonicalIsUnique
+pub mod CanonicalLaws
