@@ -4,3 +4,6 @@ pub mod Corners
 pub mod Runs
 pub mod Canonical
 pub mod Optics
+pub mod Outside
+pub mod Memory
+pub mod Calm

@@ -4,23 +4,35 @@
 //! covered pixels, which contracts see as a test. The image of a mask is the sum of coherent systems (Cobb 1998): each
 //! kernel sums what the mask passes over its window, and the intensity is the weighted sum of the powers of these sums.
 //!
-//! The definitions stand in `specs/`: `Plane` (sets of pixels), `Optics` (the plain pixel sum).
+//! The outside is a trait, `Host`: files by name, a place to say things, and faults that are counted.
+//!
+//! The definitions stand in `specs/`: `Plane` (sets of pixels), `Optics` (the plain pixel sum), `Outside` (what a host
+//! holds, tells and counts).
 #![tactic(auto)]
 
 mod bytes;
+mod calm_host;
 mod fault;
+mod file_map;
+mod host;
 mod kernels;
+mod mem_host;
 mod name;
 mod pixes;
 mod plane;
 mod rects;
 mod text;
+mod watch;
 
 pub use bytes::Bytes;
-pub use fault::NoMemory;
+pub use calm_host::CalmHost;
+pub use fault::{HostFault, LoadFault, NoMemory};
+pub use host::{Host, MAX_LOAD};
 pub use kernels::{Entries, Entry, Kernel, KernelSet, Kernels};
+pub use mem_host::{Fail, MemHost};
 pub use name::Name;
 pub use pixes::Pixes;
 pub use plane::{Corner, Pix, Rect, Side};
 pub use rects::Rects;
 pub use text::Text;
+pub use watch::{NoWatch, Watch};
