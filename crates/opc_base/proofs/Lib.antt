@@ -1,2 +1,3 @@
 pub mod CanonicalIsUnique
 pub mod CanonicalLaws
+pub mod FileEntries

@@ -8,3 +8,6 @@ pub mod Target
 pub mod Optics
 pub mod Ranges
 pub mod Rules
+pub mod Outside
+pub mod Memory
+pub mod Calm

@@ -6,13 +6,21 @@
 //!
 //! The definitions stand in `specs/`: `Plane` (sets of pixels), `Canonical` (canonical
 //! rectangles), `Cover` and `Target` (what placed shapes cover), `Optics` (the plain pixel sum).
+//! The outside is a trait, `Host`: files by name, a place to say things, and faults that are counted.
+//!
+//! The definitions stand in `specs/`: `Plane` (sets of pixels), `Optics` (the plain pixel sum), `Outside` (what a host
+//! holds, tells and counts).
 #![tactic(auto)]
 
 mod broken;
 mod bytes;
+mod calm_host;
 mod fault;
+mod file_map;
+mod host;
 mod kernels;
 mod moves;
+mod mem_host;
 mod name;
 mod outline;
 mod pixes;
@@ -21,12 +29,16 @@ mod rects;
 mod rules;
 mod region;
 mod text;
+mod watch;
 
 pub use broken::{Broken, Place, RuleName};
 pub use bytes::Bytes;
-pub use fault::NoMemory;
+pub use calm_host::CalmHost;
+pub use fault::{HostFault, LoadFault, NoMemory};
+pub use host::{Host, MAX_LOAD};
 pub use kernels::{Entries, Entry, Kernel, KernelSet, Kernels};
 pub use moves::{Move, Moved, RoundSummary, Swept, Totals};
+pub use mem_host::{Fail, MemHost};
 pub use name::Name;
 pub use outline::{Outline, Placed};
 pub use pixes::Pixes;
@@ -35,3 +47,4 @@ pub use rects::Rects;
 pub use rules::{CutRules, MaskRules, MoveRules, OutPick, Pick, Rules, RunRules, SiteRules};
 pub use region::Region;
 pub use text::Text;
+pub use watch::{NoWatch, Watch};
