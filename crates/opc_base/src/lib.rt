@@ -14,6 +14,7 @@ mod name;
 mod pixes;
 mod plane;
 mod rects;
+mod steps;
 mod text;
 
 pub use bytes::Bytes;
@@ -23,4 +24,5 @@ pub use name::Name;
 pub use pixes::Pixes;
 pub use plane::{Corner, Pix, Rect, Side};
 pub use rects::Rects;
+pub use steps::Steps;
 pub use text::Text;
