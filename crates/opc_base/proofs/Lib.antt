@@ -1,3 +1,5 @@
 pub mod CanonicalIsUnique
 pub mod CanonicalLaws
 pub mod FileEntries
+pub mod SumLaws
+pub mod OpticsLaws

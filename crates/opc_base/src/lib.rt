@@ -28,6 +28,7 @@ mod plane;
 mod rects;
 mod rules;
 mod region;
+mod steps;
 mod text;
 mod watch;
 
@@ -46,5 +47,6 @@ pub use plane::{Corner, Pix, Rect, Side};
 pub use rects::Rects;
 pub use rules::{CutRules, MaskRules, MoveRules, OutPick, Pick, Rules, RunRules, SiteRules};
 pub use region::Region;
+pub use steps::Steps;
 pub use text::Text;
 pub use watch::{NoWatch, Watch};
