@@ -1,0 +1,3 @@
+pub mod RecordsLemmas
+pub mod Longest
+pub mod WrittenLemmas
