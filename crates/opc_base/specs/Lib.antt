@@ -6,3 +6,5 @@ pub mod Canonical
 pub mod Cover
 pub mod Target
 pub mod Optics
+pub mod Ranges
+pub mod Rules

@@ -8,24 +8,30 @@
 //! rectangles), `Cover` and `Target` (what placed shapes cover), `Optics` (the plain pixel sum).
 #![tactic(auto)]
 
+mod broken;
 mod bytes;
 mod fault;
 mod kernels;
+mod moves;
 mod name;
 mod outline;
 mod pixes;
 mod plane;
 mod rects;
 mod region;
+mod rules;
 mod text;
 
+pub use broken::{Broken, Place, RuleName};
 pub use bytes::Bytes;
 pub use fault::NoMemory;
 pub use kernels::{Entries, Entry, Kernel, KernelSet, Kernels};
+pub use moves::{Move, Moved, RoundSummary, Swept, Totals};
 pub use name::Name;
 pub use outline::{Outline, Placed};
 pub use pixes::Pixes;
 pub use plane::{Corner, Pix, Rect, Side};
 pub use rects::Rects;
 pub use region::Region;
+pub use rules::{CutRules, MaskRules, MoveRules, OutPick, Pick, Rules, RunRules, SiteRules};
 pub use text::Text;
