@@ -31,3 +31,11 @@ pub use crate::library_head::Head;
 pub use crate::points::{Point, point_at};
 pub use crate::reading::{Next, Record, next_record};
 pub use crate::writing::put_record;
+//! The numbers of a stream file.
+#![tactic(auto)]
+
+mod real;
+#[cfg(test)]
+mod real_tests;
+
+pub use real::{is_one, quarter_turns};
