@@ -23,6 +23,9 @@
 mod library_head;
 mod points;
 mod reading;
+mod real;
+#[cfg(test)]
+mod real_tests;
 #[cfg(test)]
 mod tests;
 mod writing;
@@ -30,12 +33,5 @@ mod writing;
 pub use crate::library_head::Head;
 pub use crate::points::{Point, point_at};
 pub use crate::reading::{Next, Record, next_record};
+pub use crate::real::{is_one, quarter_turns};
 pub use crate::writing::put_record;
-//! The numbers of a stream file.
-#![tactic(auto)]
-
-mod real;
-#[cfg(test)]
-mod real_tests;
-
-pub use real::{is_one, quarter_turns};

@@ -4,12 +4,11 @@
 //! covered pixels, which contracts see as a test. The image of a mask is the sum of coherent systems (Cobb 1998): each
 //! kernel sums what the mask passes over its window, and the intensity is the weighted sum of the powers of these sums.
 //!
-//! The definitions stand in `specs/`: `Plane` (sets of pixels), `Canonical` (canonical
-//! rectangles), `Cover` and `Target` (what placed shapes cover), `Optics` (the plain pixel sum).
 //! The outside is a trait, `Host`: files by name, a place to say things, and faults that are counted.
 //!
-//! The definitions stand in `specs/`: `Plane` (sets of pixels), `Optics` (the plain pixel sum), `Outside` (what a host
-//! holds, tells and counts).
+//! The definitions stand in `specs/`: `Plane` (sets of pixels), `Runs` and `Canonical` (canonical rectangles), `Cover`
+//! and `Target` (what placed shapes cover), `Corners` (signed corners), `Optics` (the plain pixel sum), `Rules` (ranges
+//! of rules), `Outside` (what a host holds, tells and counts).
 #![tactic(auto)]
 
 mod broken;
@@ -19,15 +18,15 @@ mod fault;
 mod file_map;
 mod host;
 mod kernels;
-mod moves;
 mod mem_host;
+mod moves;
 mod name;
 mod outline;
 mod pixes;
 mod plane;
 mod rects;
-mod rules;
 mod region;
+mod rules;
 mod steps;
 mod text;
 mod watch;
@@ -38,15 +37,15 @@ pub use calm_host::CalmHost;
 pub use fault::{HostFault, LoadFault, NoMemory};
 pub use host::{Host, MAX_LOAD};
 pub use kernels::{Entries, Entry, Kernel, KernelSet, Kernels};
-pub use moves::{Move, Moved, RoundSummary, Swept, Totals};
 pub use mem_host::{Fail, MemHost};
+pub use moves::{Move, Moved, RoundSummary, Swept, Totals};
 pub use name::Name;
 pub use outline::{Outline, Placed};
 pub use pixes::Pixes;
 pub use plane::{Corner, Pix, Rect, Side};
 pub use rects::Rects;
-pub use rules::{CutRules, MaskRules, MoveRules, OutPick, Pick, Rules, RunRules, SiteRules};
 pub use region::Region;
+pub use rules::{CutRules, MaskRules, MoveRules, OutPick, Pick, Rules, RunRules, SiteRules};
 pub use steps::Steps;
 pub use text::Text;
 pub use watch::{NoWatch, Watch};
