@@ -1,7 +1,8 @@
 -- Entries of kernels, what a mask lets through, and how far amplitudes reach.
-use Rattle.std.proofs.Common.{◌≡◌, ℕ, ◌+◌, ◌*◌, ◌≤◌, ℤ, pos, ◌+ℤ◌, ◌-ℤ◌, ◌*ℤ◌, unsigned_abs, List, Option, Some, None, slice_get, Bool, if◌then◌else◌, All, length, refl, subst, arith, ⊎_elim, mul-le-mul, true, false, Contains, sum_by}
+use Rattle.std.proofs.Common.{◌≡◌, ℕ, ◌+◌, ◌*◌, ◌≤◌, ℤ, pos, ◌+ℤ◌, ◌-ℤ◌, ◌*ℤ◌, unsigned_abs, List, Option, Some, None, slice_get, Bool, if◌then◌else◌, All, length, refl, subst, arith, ⊎_elim, mul-le-mul, true, false, Contains, sum_by, ap, ap₂, sym, get_or, ◌<◌}
 use Rattle.std.proofs.lemmas.Int.{ints, unsigned_abs-mul}
-use Rattle.std.proofs.lemmas.Option.{get_or_from_slice_get, slice_get_within}
+use Rattle.std.proofs.lemmas.Option.{get_or_from_slice_get, slice_get-get_or, slice_get_within}
+use Rattle.opc_base.specs.Blocks.{place_at}
 use Rattle.opc_base.specs.Optics.{AreKernelsWithin, IsEntryWithin, IsKernelWithin, KeepsBounds, KeepsOneTransmission, KeepsTwoTransmissions, entry_at, entry_or_nothing, nothing, passes, place_of, product_im, product_re}
 use Rattle.opc_base.specs.Plane.{PixelSet}
 use Rattle.opc_base.specs.declared.kernels.Entry.{Entry}
@@ -87,3 +88,15 @@ product_within set kernel pixels u v x y bounds among = ⊎_elim one two bounds
     two keeps = product-two (entry_at set.reach kernel.entries u v) (passes set pixels x y)
         (entry_at-within set.reach kernel.entries 128 u v (kernel_within set 128 kernel keeps.kernels among).entries_within)
         (passes-within set pixels x y 8 keeps.covered keeps.uncovered)
+
+-- an entry by its row and column, counted from 0
+pub entry_at_place : (r : ℕ) (entries : List Entry) (column row : ℕ) → row * (2 * r + 1) + column < length entries →
+    get_or entries (row * (2 * r + 1) + column) nothing ≡ entry_at r entries (place_at r column) (place_at r row)
+entry_at_place r entries column row within =
+    sym (rw place (ap entry_or_nothing (slice_get-get_or entries (row * (2 * r + 1) + column) nothing within)))
+  where
+    place : place_of r (place_at r column) (place_at r row) ≡ row * (2 * r + 1) + column
+    place = ap₂ (λ m n. m * (2 * r + 1) + n) (from_left r row) (from_left r column)
+      where
+        from_left : (r n : ℕ) → unsigned_abs (place_at r n +ℤ pos r) ≡ n
+        from_left r n = omega (arith, ints)

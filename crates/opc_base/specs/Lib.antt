@@ -11,3 +11,4 @@ pub mod Rules
 pub mod Outside
 pub mod Memory
 pub mod Calm
+pub mod Blocks
