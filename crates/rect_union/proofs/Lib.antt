@@ -1,0 +1,17 @@
+pub mod RowLaws
+pub mod CornerLaws
+pub mod QuadrantLaws
+pub mod TargetLaws
+pub mod OutlineLaws
+pub mod SweepLaws
+pub mod MergeLaws
+pub mod ColumnLaws
+pub mod SumLaws
+pub mod StackLaws
+pub mod Pigeonhole
+pub mod LowerSides
+pub mod PointLaws
+pub mod SetLaws
+pub mod RectCornerLaws
+pub mod MergingLaws
+pub mod WithinLaws
