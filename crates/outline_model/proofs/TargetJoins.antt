@@ -1,6 +1,6 @@
 -- Fragments on the boundary of pixels that nowhere touch at a corner only: when they are joined by their points, they
 -- are an outline.
-use Rattle.std.proofs.Common.{◌≡◌, ◌≢◌, ℕ, ◌<◌, ℤ, pos, ◌+ℤ◌, ◌-ℤ◌, ◌<ℤ◌, Bool, true, false, not, if◌then◌else◌, List, length, int_lt, refl, sym, ◌∙◌, ap, subst, arith}
+use Rattle.std.proofs.Common.{◌≡◌, ◌≢◌, ◌⊎◌, inl, inr, ℕ, ◌<◌, ℤ, pos, ◌+ℤ◌, ◌-ℤ◌, ◌<ℤ◌, Bool, true, false, not, if◌then◌else◌, List, length, int_lt, refl, sym, ◌∙◌, ap, subst, arith}
 use Rattle.std.proofs.lemmas.Int.{ints}
 use Rattle.opc_base.specs.declared.plane.Side.{Side}
 use Rattle.opc_base.specs.declared.plane.Side.TheVariants.{Left, Right, Down, Up}
@@ -72,7 +72,7 @@ StartFacts inside Right x y = (inside x y ≡ false) × (inside (x -ℤ pos 1) y
 StartFacts inside Down x y = (inside x y ≡ true) × (inside x (y -ℤ pos 1) ≡ false)
 StartFacts inside Up x y = (inside (x -ℤ pos 1) y ≡ false) × (inside (x -ℤ pos 1) (y -ℤ pos 1) ≡ true)
 
-pub start_facts : (inside : ℤ → ℤ → Bool) (fs : List Fragment) (k : ℕ) (side : Side) (x y : ℤ) → IsBoundary inside fs → k < length fs
+start_facts : (inside : ℤ → ℤ → Bool) (fs : List Fragment) (k : ℕ) (side : Side) (x y : ℤ) → IsBoundary inside fs → k < length fs
     → (fragment_at fs k).side ≡ side → StartsAt side (fragment_at fs k).edge (fragment_at fs k).lo (fragment_at fs k).hi x y → StartFacts inside side x y
 start_facts inside fs k Left x y boundary below e at =
     let faces = boundary.upright k x (y -ℤ pos 1) below (first_side Left (fragment_at fs k) x y e at (boundary.some k below)) in
@@ -106,7 +106,7 @@ FinishFacts inside Right x y = (inside x (y -ℤ pos 1) ≡ false) × (inside (x
 FinishFacts inside Down x y = (inside (x -ℤ pos 1) y ≡ true) × (inside (x -ℤ pos 1) (y -ℤ pos 1) ≡ false)
 FinishFacts inside Up x y = (inside x y ≡ false) × (inside x (y -ℤ pos 1) ≡ true)
 
-pub finish_facts : (inside : ℤ → ℤ → Bool) (fs : List Fragment) (k : ℕ) (side : Side) (x y : ℤ) → IsBoundary inside fs → k < length fs
+finish_facts : (inside : ℤ → ℤ → Bool) (fs : List Fragment) (k : ℕ) (side : Side) (x y : ℤ) → IsBoundary inside fs → k < length fs
     → (fragment_at fs k).side ≡ side → FinishesAt side (fragment_at fs k).edge (fragment_at fs k).lo (fragment_at fs k).hi x y → FinishFacts inside side x y
 finish_facts inside fs k Left x y boundary below e at =
     let faces = boundary.upright k x y below (last_side Left (fragment_at fs k) x y e at (boundary.some k below)) in
@@ -275,6 +275,47 @@ finishes_once inside fs j k boundary none j_below k_below e =
     let f = fragment_at fs j in let g = fragment_at fs k in let p = finish_point g in
     finishes_once_at inside fs j k f.side g.side p.x p.y boundary none j_below k_below refl refl
     (finishes_at f.side f.edge f.lo f.hi p.x p.y e) (finishes_at g.side g.edge g.lo g.hi p.x p.y refl)
+
+-- ---- what starts where another finishes lies on the same side, or across it
+
+meets_side_at : (inside : ℤ → ℤ → Bool) (fs : List Fragment) (j k : ℕ) (s t : Side) (x y : ℤ) → IsBoundary inside fs → j < length fs → k < length fs
+    → (fragment_at fs j).side ≡ s → (fragment_at fs k).side ≡ t
+    → StartsAt s (fragment_at fs j).edge (fragment_at fs j).lo (fragment_at fs j).hi x y
+    → FinishesAt t (fragment_at fs k).edge (fragment_at fs k).lo (fragment_at fs k).hi x y
+    → (s ≡ t) ⊎ (is_vertical s ≡ not (is_vertical t))
+meets_side_at inside fs j k Left Left x y boundary j_below k_below e f at to = inl refl
+meets_side_at inside fs j k Left Right x y boundary j_below k_below e f at to =
+    let first = (start_facts inside fs j Left x y boundary j_below e at).0 in
+    let second = (finish_facts inside fs k Right x y boundary k_below f to).0 in absurd (cc (first, second))
+meets_side_at inside fs j k Left Down x y boundary j_below k_below e f at to = inr refl
+meets_side_at inside fs j k Left Up x y boundary j_below k_below e f at to = inr refl
+meets_side_at inside fs j k Right Left x y boundary j_below k_below e f at to =
+    let first = (start_facts inside fs j Right x y boundary j_below e at).0 in
+    let second = (finish_facts inside fs k Left x y boundary k_below f to).0 in absurd (cc (first, second))
+meets_side_at inside fs j k Right Right x y boundary j_below k_below e f at to = inl refl
+meets_side_at inside fs j k Right Down x y boundary j_below k_below e f at to = inr refl
+meets_side_at inside fs j k Right Up x y boundary j_below k_below e f at to = inr refl
+meets_side_at inside fs j k Down Left x y boundary j_below k_below e f at to = inr refl
+meets_side_at inside fs j k Down Right x y boundary j_below k_below e f at to = inr refl
+meets_side_at inside fs j k Down Down x y boundary j_below k_below e f at to = inl refl
+meets_side_at inside fs j k Down Up x y boundary j_below k_below e f at to =
+    let first = (start_facts inside fs j Down x y boundary j_below e at).0 in
+    let second = (finish_facts inside fs k Up x y boundary k_below f to).0 in absurd (cc (first, second))
+meets_side_at inside fs j k Up Left x y boundary j_below k_below e f at to = inr refl
+meets_side_at inside fs j k Up Right x y boundary j_below k_below e f at to = inr refl
+meets_side_at inside fs j k Up Down x y boundary j_below k_below e f at to =
+    let first = (start_facts inside fs j Up x y boundary j_below e at).0 in
+    let second = (finish_facts inside fs k Down x y boundary k_below f to).0 in absurd (cc (first, second))
+meets_side_at inside fs j k Up Up x y boundary j_below k_below e f at to = inl refl
+
+-- A fragment that starts where another finishes lies on the same side, or across it.
+pub meets_side : (inside : ℤ → ℤ → Bool) (fs : List Fragment) (j k : ℕ) → IsBoundary inside fs → j < length fs → k < length fs
+    → start_point (fragment_at fs j) ≡ finish_point (fragment_at fs k)
+    → ((fragment_at fs j).side ≡ (fragment_at fs k).side) ⊎ (is_vertical (fragment_at fs j).side ≡ not (is_vertical (fragment_at fs k).side))
+meets_side inside fs j k boundary j_below k_below e =
+    let f = fragment_at fs j in let g = fragment_at fs k in let p = finish_point g in
+    meets_side_at inside fs j k f.side g.side p.x p.y boundary j_below k_below refl refl
+    (starts_at f.side f.edge f.lo f.hi p.x p.y e) (finishes_at g.side g.edge g.lo g.hi p.x p.y refl)
 
 -- ---- points of two lines
 
