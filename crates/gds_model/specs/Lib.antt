@@ -6,3 +6,9 @@ pub mod StreamFile
 pub mod Faults
 pub mod Elements
 pub mod Library
+pub mod Reach
+pub mod Placement
+pub mod PathRects
+pub mod PlacedList
+pub mod Outlines
+pub mod PlaceFaults

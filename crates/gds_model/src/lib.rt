@@ -9,6 +9,11 @@
 //! - `Names`: the name in a body;
 //! - `Faults`: what may be wrong at a record, and the first fault of a file in file order;
 //! - `Elements`, `Library`: the library that a sentence describes.
+//! - `Elements`, `Library`: the library that a sentence describes;
+//! - `Reach`: which structures the references of a library reach;
+//! - `Placement`, `PlacedList`: where references place points, and the list of the shapes that a structure places;
+//! - `PathRects`, `Outlines`: the rectangles of a path, and what a placed shape is in pixels;
+//! - `PlaceFaults`: why a layer can't be expanded, in five stages.
 //!
 //! A layout is a list of structures in file order; a structure has elements, each a shape or a reference:
 //!
@@ -23,6 +28,8 @@
 mod elements;
 mod layout_fault;
 mod points;
+mod place_fault;
+mod position;
 mod record_kind;
 mod reference;
 mod shape;
@@ -30,6 +37,8 @@ mod shape;
 pub use elements::{Element, Elements, Structure};
 pub use layout_fault::LayoutFault;
 pub use points::Points;
+pub use place_fault::PlaceFault;
+pub use position::{Direction, DoubledRect, PathForm, Position};
 pub use record_kind::RecordKind;
 pub use reference::{Grid, Reference};
 pub use shape::{Shape, ShapeKind};

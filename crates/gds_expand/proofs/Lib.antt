@@ -1,0 +1,4 @@
+pub mod PathLemmas
+pub mod PlacementLemmas
+pub mod PointLemmas
+pub mod WalkLemmas

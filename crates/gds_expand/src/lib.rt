@@ -1,0 +1,7 @@
+//! Shapes placed through references.
+#![tactic(auto)]
+
+mod path;
+mod placement;
+mod points;
+mod walk;

@@ -1,0 +1,81 @@
+//! The shapes that a structure places, without recursion.
+
+ghost use Rattle.std.specs.Prelude.{◌≡◌, ℕ, ◌^◌, ◌<◌, length, map, IfOk};
+ghost use Rattle.gds_expand.specs.Steps.{IsRanked, mapped, plan_places};
+
+use crate::placement::Placement;
+use gds_model::{Position, Shape};
+use std::alloc::{AllocError, Global};
+
+/// What a structure places: a shape, or a copy of what another structure places.
+#[derive(Clone, Copy, Debug)]
+pub enum Step<'a> {
+    Shape(&'a Shape),
+    Copy(usize, Placement),
+}
+
+/// A shape, as a chain of references places it.
+#[derive(Clone, Copy, Debug)]
+pub struct PlacedShape<'a> {
+    pub shape: &'a Shape,
+    pub placement: Placement,
+}
+
+/// The steps of a structure from `next` on are still to be placed.
+#[derive(Clone, Copy, Debug)]
+struct Task {
+    structure: usize,
+    next: usize,
+    placement: Placement,
+}
+
+/// The shapes that the top places, in order.
+pub fn placed_shapes<'a>(
+    alloc: Global,
+    plan: &[Vec<Step<'a>>],
+    top: usize,
+) -> Result<Vec<PlacedShape<'a>>, AllocError>
+    ghost rank: { ℕ → ℕ }
+    requires ranked { IsRanked plan.now rank }
+    requires top { top < length plan.now }
+    requires depth { rank top < 2 ^ 16 }
+
+    // at every depth that reaches the last chain
+    ensures { IfOk result (λ shapes. (depth : ℕ) → rank top < depth → map mapped shapes.items ≡ plan_places plan.now depth top) }
+{
+    let mut shapes = Vec::new(alloc);
+    let mut tasks = Vec::new(alloc);
+    let placement = Placement {
+        flip: false,
+        turns: 0,
+        shift: Position { x: 0, y: 0 },
+    };
+    tasks.push(Task {
+        structure: top,
+        next: 0,
+        placement,
+    })?;
+    'walk: while let Some(task) = tasks.pop() {
+        let Task {
+            structure,
+            next,
+            placement,
+        } = task;
+        if let Some(step) = plan[structure].get(next) {
+            tasks.push(Task {
+                structure,
+                next: next + 1,
+                placement,
+            })?;
+            match *step {
+                Step::Shape(shape) => shapes.push(PlacedShape { shape, placement })?,
+                Step::Copy(target, inner) => tasks.push(Task {
+                    structure: target,
+                    next: 0,
+                    placement: placement.after(&inner),
+                })?,
+            }
+        }
+    }
+    Ok(shapes)
+}

@@ -1,0 +1,2 @@
+pub mod PlacedListLaws
+pub mod PointLaws
