@@ -13,8 +13,8 @@ abbrev pub place_before : ℕ → ℕ → ℤ
 place_before r n = neg_ℤ (pos r) -ℤ pos 1 +ℤ pos n
 
 -- the sum of k(u, v) over all u and v from -r to r whose pixel (x - u, y - v) is in the set
-abbrev pub part : ℕ → (ℤ → ℤ → ℤ) → PixelSet → ℤ → ℤ → ℤ
-part r k pixels x y = sum_window r (λ u v. if pixels (x -ℤ u) (y -ℤ v) then k u v else pos 0)
+abbrev pub seen_sum : ℕ → (ℤ → ℤ → ℤ) → PixelSet → ℤ → ℤ → ℤ
+seen_sum r k pixels x y = sum_window r (λ u v. if pixels (x -ℤ u) (y -ℤ v) then k u v else pos 0)
 
 -- the sum of k(u, v) over all u at most dx and v at most dy
 abbrev pub block : ℕ → (ℤ → ℤ → ℤ) → ℤ → ℤ → ℤ

@@ -12,3 +12,5 @@ pub mod Outside
 pub mod Memory
 pub mod Calm
 pub mod Blocks
+pub mod Lanes
+pub mod Changes

@@ -13,6 +13,8 @@
 mod amplitude;
 mod intensity;
 mod place;
+#[cfg(test)]
+mod tests;
 
 pub use amplitude::{Amplitude, plain_amplitude};
 pub use intensity::plain_intensity;
