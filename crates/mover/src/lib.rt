@@ -1,13 +1,15 @@
-// A library with one function.
+//! The wish: how far a fragment is to move for its error.
+//!
+//! A fragment whose error lies outward wishes to move inward, and the other way round, by the error times the gain. A wish
+//! is a whole number of pixels. It is at most a step of the rules, and never takes an offset out of its range.
+//!
+//! ```
+//! let delta = wish(-9, 0, &rules); // 1: the nearest whole number to 9 / 16, outward
+//! ```
 #![tactic(auto)]
 
-ghost use Rattle.std.specs.Prelude.{◌≡◌};
-ghost use Rattle.mover.specs.Echo.{echo_of};
+mod mover;
+#[cfg(test)]
+mod tests;
 
-// The `ensures` clause is the contract: what `echo` returns is `echo_of` of its argument, a definition
-// in `specs/Echo.antt`, which a caller's clause can cite too.
-pub fn echo(x: usize) -> usize
-    ensures { result ≡ echo_of x }
-{
-    x
-}
+pub use mover::wish;
