@@ -1,15 +1,14 @@
 -- A file without a fault spells a set that keeps the bounds.
-use Rattle.std.proofs.Common.{◌≡◌, ◌⊎◌, ℕ, suc, ◌+◌, ◌*◌, ◌<◌, ◌≤◌, Bool, true, false, Option, Some, None, List, [], length, map, get_or, refl, sym, ap, ◌∙◌, subst, arith, inl, inr}
-use Rattle.std.specs.Prelude.{All, ℤ, pos, unsigned_abs, ◌==◌, sum_by}
+use Rattle.std.proofs.Common.{◌≡◌, ℕ, ◌+◌, ◌*◌, ◌<◌, ◌≤◌, Bool, true, false, Option, Some, None, List, [], length, map, refl, sym, ap, ◌∙◌, subst, arith, inl, inr}
+use Rattle.std.specs.Prelude.{All, unsigned_abs, ◌==◌, sum_by}
 use Rattle.std.specs.List.{range_with_len}
-use Rattle.std.specs.Option.{option_or, option_map}
+use Rattle.std.specs.Option.{option_map}
 use Rattle.std.proofs.lemmas.Bool.{eqb-false}
 use Rattle.std.proofs.lemmas.List.Elements.{All-from_get_or}
 use Rattle.std.proofs.lemmas.List.FromFn.{get_or-map-range_with_len, length-map-range_with_len}
-use Rattle.opc_base.specs.declared.kernels.Entry.{Entry}
 use Rattle.opc_base.specs.declared.kernels.Kernel.{Kernel}
 use Rattle.opc_base.specs.declared.kernels.KernelSet.{KernelSet}
-use Rattle.opc_base.specs.Optics.{nothing, IsEntryWithin, IsKernelWithin, AreKernelsWithin, KeepsOneTransmission, KeepsTwoTransmissions, KeepsBounds}
+use Rattle.opc_base.specs.Optics.{nothing, IsEntryWithin, IsKernelWithin, AreKernelsWithin, KeepsBounds}
 use Rattle.kernel_file.specs.declared.fault.KernelFault.{KernelFault}
 use Rattle.kernel_file.specs.declared.fault.KernelFault.TheVariants.{BadWeight, BadEntry, BadTransmission}
 use Rattle.kernel_file.specs.declared.format.Format.{Format}

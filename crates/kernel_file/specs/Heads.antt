@@ -1,8 +1,7 @@
 -- What stands before the kernels, as the reader keeps it.
-use Rattle.std.specs.Prelude.{◌≡◌, ◌≤◌, ℕ, true, None, List, length}
+use Rattle.std.specs.Prelude.{◌≡◌, ◌≤◌, ℕ, true, List, length}
 use Rattle.kernel_file.specs.declared.head.Head.{Head}
 use Rattle.kernel_file.specs.KernelFile.{has_magic, format_of, count_of, reach_of, covered_of, uncovered_of, file_len}
-use Rattle.kernel_file.specs.Faults.{transmission_fault}
 
 abbrev pub head_of : List ℕ → Head
 head_of bytes = record {

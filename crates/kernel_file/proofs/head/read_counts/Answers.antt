@@ -1,5 +1,5 @@
 use Rattle.std.proofs.Common.{◌≡◌, sym, ap, inl, inr, arith, ◌∙◌}
-use Rattle.kernel_file.specs.KernelFile.{format_of, file_len, head_len}
+use Rattle.kernel_file.specs.KernelFile.{file_len, head_len}
 use Rattle.kernel_file.proofs.HeadLemmas.{ends_in_head, count_is_bad, reach_is_bad, length_is_bad}
 use Rattle.kernel_file.proofs.head.read_counts.Goals as goal
 use Rattle.kernel_file.proofs.head.read_counts.Goals.{then-count-eq0-via-then-count-eq0, then-count-eq0-via-else-count-eq0+then-count-gt-MAX_COUNT}

@@ -1,6 +1,5 @@
-use Rattle.std.proofs.Common.{◌≡◌, ◌∷◌, ◌++◌, [], ◌∙◌, sym, ap, inr, arith}
+use Rattle.std.proofs.Common.{◌∙◌, sym, inr}
 use Rattle.std.proofs.lemmas.Result.{err_from_is_err_and}
-use Rattle.kernel_file.specs.KernelFile.{entries_at}
 use Rattle.kernel_file.proofs.Places.{entries_at-none, entries_at-more}
 use Rattle.kernel_file.proofs.Firsts.{bad_part-none, bad_part-more, entry_found}
 use Rattle.kernel_file.proofs.kernels.read_entries.Goals as goal

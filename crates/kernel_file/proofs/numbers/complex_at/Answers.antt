@@ -1,9 +1,8 @@
-use Rattle.std.proofs.Common.{◌≡◌, ◌∙◌, ap, arith, rules}
+use Rattle.std.proofs.Common.{◌∙◌, ap, arith, rules}
 use Rattle.std.specs.Prelude.{unsigned_abs}
 use Rattle.std.specs.Int.{w16}
 use Rattle.std.specs.Int.RustNames.{FitsSigned}
 use Rattle.std.proofs.lemmas.Int.{to_z-of_z}
-use Rattle.kernel_file.specs.Numbers.{signed_at}
 use Rattle.kernel_file.proofs.Firsts.{bad_part-first, bad_part-second, bad_part-neither}
 use Rattle.kernel_file.proofs.numbers.complex_at.Goals as goal
 

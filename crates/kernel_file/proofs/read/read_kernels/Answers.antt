@@ -1,9 +1,8 @@
-use Rattle.std.proofs.Common.{◌≡◌, ◌∙◌, sym, ap, subst, inr, arith, length}
+use Rattle.std.proofs.Common.{◌∙◌, sym, ap, subst, inr, arith, length}
 use Rattle.std.specs.Prelude.{sum_by}
 use Rattle.std.proofs.lemmas.Result.{err_from_is_err_and}
 use Rattle.opc_base.specs.declared.kernels.Kernel.{Kernel}
 use Rattle.opc_base.specs.Optics.{KeepsBounds}
-use Rattle.kernel_file.specs.KernelFile.{kernels_of, kernel_set}
 use Rattle.kernel_file.proofs.HeadLemmas.{kernel_fault-found, kernel_fault-weights, kernel_fault-none}
 use Rattle.kernel_file.proofs.Bounds.{length-kernels_of, KeepsBounds-kernel_set, set_with-file}
 use Rattle.kernel_file.proofs.read.read_kernels.Goals as goal
