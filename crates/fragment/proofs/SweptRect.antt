@@ -1,5 +1,5 @@
 -- The rectangle that a move sweeps, as it is found.
-use Rattle.std.proofs.Common.{◌≡◌, ℕ, ◌<◌, ℤ, pos, ◌+ℤ◌, List, length, get_or, set, get_or-set_same, sym, ◌∙◌, ap, subst}
+use Rattle.std.proofs.Common.{◌≡◌, ℕ, ◌<◌, ℤ, pos, ◌+ℤ◌, List, length, set, get_or-set_same, sym, ◌∙◌, ap, subst}
 use Rattle.opc_base.specs.declared.plane.Rect.{Rect}
 use Rattle.opc_base.specs.declared.plane.Side.{Side}
 use Rattle.outline_model.specs.declared.fragment.Fragment.{Fragment}

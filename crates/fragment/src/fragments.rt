@@ -32,6 +32,14 @@ impl Fragments {
     ghost use Rattle.outline_model.specs.Ranges.{IsWithin};
     ghost use Rattle.outline_model.specs.Rules.{NoneCrosses};
 
+    /// The list of these fragments.
+    pub(crate) fn from_vec(items: Vec<Fragment>) -> Self
+        requires { IsFragmentList items.items }
+        ensures { result ≡ items.items }
+    {
+        Fragments { items }
+    }
+
     /// The number of fragments.
     pub fn count(&self) -> u32
         ensures count { result ≡ length self.now }

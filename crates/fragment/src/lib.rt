@@ -14,7 +14,10 @@
 #![tactic(auto)]
 
 mod fragments;
+mod region_cut;
 mod site;
 
+pub use cutting::{CutFault, MAX_FRAGMENTS};
 pub use fragments::Fragments;
 pub use outline_model::{Fragment, Join};
+pub use region_cut::cut;
