@@ -1,0 +1,5 @@
+pub mod Derivative
+pub mod State
+pub mod Texts
+pub mod Progress
+pub mod OpenElement
