@@ -8,3 +8,4 @@ pub mod ClampLaws
 pub mod ChangeLaws
 pub mod CornerLaws
 pub mod LaneLaws
+pub mod ProductLaws

@@ -77,12 +77,8 @@ fn product(a: Entry, b: Entry) -> Amplitude
     ensures re { result.re ≡ product_re a b }
     ensures im { result.im ≡ product_im a b }
 {
-    let a_re = i64::from(a.re);
-    let a_im = i64::from(a.im);
-    let b_re = i64::from(b.re);
-    let b_im = i64::from(b.im);
     Amplitude {
-        re: a_re * b_re - a_im * b_im,
-        im: a_re * b_im + a_im * b_re,
+        re: a.times_re(b),
+        im: a.times_im(b),
     }
 }
