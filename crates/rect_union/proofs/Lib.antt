@@ -15,3 +15,4 @@ pub mod SetLaws
 pub mod RectCornerLaws
 pub mod MergingLaws
 pub mod WithinLaws
+pub mod TouchLaws

@@ -13,7 +13,7 @@ use Rattle.opc_base.specs.Corners.{sign_at}
 use Rattle.opc_base.specs.Target.{AreDistinctCorners, IsCornerOf}
 use Rattle.rect_union.specs.declared.quadrants.Quadrant.{Quadrant}
 use Rattle.rect_union.specs.CornerCount.{HasAllCorners, HasCornerCount}
-use Rattle.rect_union.specs.Merging.{AreMerged, EndsPoint, GoesOn, IsAtPointOf, IsBefore, IsMergingTo, PushesSigned, Settles, sign_there, signs_there, with_sign}
+use Rattle.rect_union.specs.Merging.{AreCornersIn, AreMerged, EndsPoint, GoesOn, IsAtPointOf, IsBefore, IsMergingTo, PushesSigned, Settles, sign_there, signs_there, with_sign}
 use Rattle.rect_union.specs.Quadrants.{AreInRows, quadrant_weight}
 use Rattle.rect_union.proofs.LowerSides.{known}
 use Rattle.rect_union.proofs.SumLaws.{sum_each-more, sum_each-nil, sum_each-push}
@@ -173,7 +173,7 @@ own_sign : (q : Quadrant) → sign_there q q.column.x q.y ≡ q.column.sign
 own_sign q = grind (arith, ints)
 
 -- at the point of each one the sum is its sign
-sign_of : (merged : List Quadrant) (k : ℕ) (d : Quadrant) → AllPairs IsBefore merged → k < length merged
+pub sign_of : (merged : List Quadrant) (k : ℕ) (d : Quadrant) → AllPairs IsBefore merged → k < length merged
     → signs_there merged (get_or merged k d).column.x (get_or merged k d).y ≡ (get_or merged k d).column.sign
 unfolding sum_each
 sign_of [] k d ascending below = absurd (omega arith)
@@ -209,9 +209,16 @@ distinct_places : (p q : Quadrant) → IsBefore p q → place_of p ≢ place_of 
 distinct_places p q (inl less) same = let up = ap (λ (r : Pix). r.y) same in omega (arith, ints)
 distinct_places p q (inr (level, left)) same = let across = ap (λ (r : Pix). r.x) same in omega (arith, ints)
 
-pub corners_counted : (pixels : PixelSet) (quadrants merged : List Quadrant) → AreMerged quadrants merged
-    → ((x y : ℤ) → sign_at pixels x y ≡ signs_there quadrants x y) → HasCornerCount pixels (length merged)
-corners_counted pixels quadrants merged are signs =
+pub corners_merged : (pixels : PixelSet) (quadrants merged : List Quadrant) → AreMerged quadrants merged
+    → ((x y : ℤ) → sign_at pixels x y ≡ signs_there quadrants x y) → AreCornersIn pixels merged
+corners_merged pixels quadrants merged are signs = record {
+  ascending = are.ascending;
+  signed = are.signed;
+  signs = λ x y. signs x y ∙ sym (are.sums x y);
+}
+
+pub corners_counted : (pixels : PixelSet) (merged : List Quadrant) → AreCornersIn pixels merged → HasCornerCount pixels (length merged)
+corners_counted pixels merged are =
     let size : length (map place_of merged) ≡ length merged = length-map merged place_of in
     record {
       points = map place_of merged;
@@ -223,9 +230,22 @@ corners_counted pixels quadrants merged are signs =
             λ same. distinct_places (get_or merged i q) (get_or merged j q) (are.ascending i j q before (omega arith)) (sym first ∙ same ∙ second);
         corners = All-map (IsCornerOf pixels) place_of merged (λ k d below none.
             are.signed k d below (sym (sign_of merged k d are.ascending below)
-            ∙ are.sums (get_or merged k d).column.x (get_or merged k d).y
-            ∙ sym (signs (get_or merged k d).column.x (get_or merged k d).y) ∙ none));
+            ∙ sym (are.signs (get_or merged k d).column.x (get_or merged k d).y) ∙ none));
       };
-      complete = λ x y corner. has_place merged x y (λ none. corner (signs x y ∙ sym (are.sums x y) ∙ none));
+      complete = λ x y corner. has_place merged x y (λ none. corner (are.signs x y ∙ none));
       counted = size;
     }
+
+-- the corner at a point whose sign is not 0
+pub corner_there : (pixels : PixelSet) (merged : List Quadrant) (x y : ℤ) (d : Quadrant) → AreCornersIn pixels merged → sign_at pixels x y ≢ pos 0
+    → (k : ℕ) × (k < length merged) × ((get_or merged k d).column.x ≡ x) × ((get_or merged k d).y ≡ y) × ((get_or merged k d).column.sign ≡ sign_at pixels x y)
+corner_there pixels merged x y d are some =
+    let at = has_place merged x y (λ none. some (are.signs x y ∙ none)) in
+    let size : length (map place_of merged) ≡ length merged = length-map merged place_of in
+    let inside = at.1 in
+    let below : at.0 < length merged = omega arith in
+    let is : place_of (get_or merged at.0 d) ≡ record { x = x; y = y } = sym (get_or-map place_of merged at.0 d (record { x = x; y = y }) below) ∙ at.2 in
+    let across : (get_or merged at.0 d).column.x ≡ x = ap (λ (p : Pix). p.x) is in
+    let up : (get_or merged at.0 d).y ≡ y = ap (λ (p : Pix). p.y) is in
+    (at.0, below, across, up,
+      sym (sign_of merged at.0 d are.ascending below) ∙ ap₂ (λ a b. signs_there merged a b) across up ∙ sym (are.signs x y))

@@ -5,42 +5,54 @@ use Rattle.opc_base.specs.declared.plane.Corner.{Corner}
 use Rattle.opc_base.specs.declared.plane.Rect.{Rect}
 use Rattle.opc_base.specs.Canonical.{AreCanonical, IsSolid, Precedes}
 use Rattle.opc_base.specs.Corners.{quadrant_sum}
-use Rattle.opc_base.specs.Plane.{cover, indicator, rect_cover}
+use Rattle.opc_base.specs.Plane.{IsRectWithin, cover, indicator, rect_cover}
+use Rattle.std.proofs.lemmas.List.Elements.{All-push}
+use Rattle.std.specs.Prelude.{All}
+use Rattle.rect_union.specs.CornerSets.{IsCornerWithin, corner, rect_sign}
 use Rattle.opc_base.specs.Sums.{sum_each}
 use Rattle.rect_union.specs.Outlines.{path_count, rect_count}
 use Rattle.rect_union.proofs.LowerSides.{known}
 use Rattle.rect_union.proofs.SumLaws.{sum_each-push}
 
-corner_parts : (a b c d e f : Bool) → (b ≡ true → c ≡ false) → (b ≡ false → c ≡ true) → (e ≡ true → f ≡ false) → (e ≡ false → f ≡ true)
+corner_parts : (a b c d e f : Bool) (s t : ℤ) → s +ℤ t ≡ pos 0 → (b ≡ true → c ≡ false) → (b ≡ false → c ≡ true) → (e ≡ true → f ≡ false) → (e ≡ false → f ≡ true)
     → (c ≡ true → a ≡ true) → (f ≡ true → d ≡ true)
-    → (if a && b && d && e then pos 1 else pos 0)
-    ≡ (if a && d then pos 1 else pos 0) +ℤ (if c && d then negsuc 0 else pos 0) +ℤ (if a && f then negsuc 0 else pos 0) +ℤ (if c && f then pos 1 else pos 0)
-corner_parts a b c d e f g h i j k l = grind (arith, ints)
+    → (if a && b && d && e then s else pos 0)
+    ≡ (if a && d then s else pos 0) +ℤ (if c && d then t else pos 0) +ℤ (if a && f then t else pos 0) +ℤ (if c && f then s else pos 0)
+corner_parts a b c d e f s t o g h i j k l = grind (arith, ints)
 
-four_corners : (x0 x1 y0 y1 x y : ℤ) → x0 <ℤ x1 → y0 <ℤ y1
-    → (if int_le x0 x && int_lt x x1 && int_le y0 y && int_lt y y1 then pos 1 else pos 0)
-    ≡ (if int_le x0 x && int_le y0 y then pos 1 else pos 0) +ℤ (if int_le x1 x && int_le y0 y then negsuc 0 else pos 0)
-    +ℤ (if int_le x0 x && int_le y1 y then negsuc 0 else pos 0) +ℤ (if int_le x1 x && int_le y1 y then pos 1 else pos 0)
-four_corners x0 x1 y0 y1 x y wide high =
-    corner_parts (int_le x0 x) (int_lt x x1) (int_le x1 x) (int_le y0 y) (int_lt y y1) (int_le y1 y)
+four_corners : (x0 x1 y0 y1 x y s t : ℤ) → s +ℤ t ≡ pos 0 → x0 <ℤ x1 → y0 <ℤ y1
+    → (if int_le x0 x && int_lt x x1 && int_le y0 y && int_lt y y1 then s else pos 0)
+    ≡ (if int_le x0 x && int_le y0 y then s else pos 0) +ℤ (if int_le x1 x && int_le y0 y then t else pos 0)
+    +ℤ (if int_le x0 x && int_le y1 y then t else pos 0) +ℤ (if int_le x1 x && int_le y1 y then s else pos 0)
+four_corners x0 x1 y0 y1 x y s t opposite wide high =
+    corner_parts (int_le x0 x) (int_lt x x1) (int_le x1 x) (int_le y0 y) (int_lt y y1) (int_le y1 y) s t opposite
     (λ h. grind (arith, ints)) (λ h. grind (arith, ints)) (λ h. grind (arith, ints)) (λ h. grind (arith, ints)) (λ h. grind (arith, ints)) (λ h. grind (arith, ints))
 
-abbrev pub corner : ℤ → ℤ → ℤ → Corner
-corner x y sign = record { x = x; y = y; sign = sign }
+abbrev with_rect : List Corner → Rect → ℤ → ℤ → List Corner
+with_rect old r s t = (((old ++ corner r.x0 r.y0 s ∷ []) ++ corner r.x1 r.y0 t ∷ []) ++ corner r.x0 r.y1 t ∷ []) ++ corner r.x1 r.y1 s ∷ []
 
-pub pushes_rect : (old : List Corner) (r : Rect) → IsSolid r → (x y : ℤ)
-    → quadrant_sum ((((old ++ corner r.x0 r.y0 (pos 1) ∷ []) ++ corner r.x1 r.y0 (negsuc 0) ∷ []) ++ corner r.x0 r.y1 (negsuc 0) ∷ []) ++ corner r.x1 r.y1 (pos 1) ∷ []) x y
-    ≡ quadrant_sum old x y +ℤ rect_count r x y
-pushes_rect old r solid x y =
+pub pushes_rect : (old : List Corner) (r : Rect) (s t : ℤ) → s +ℤ t ≡ pos 0 → IsSolid r → (x y : ℤ)
+    → quadrant_sum (with_rect old r s t) x y ≡ quadrant_sum old x y +ℤ rect_sign s r x y
+pushes_rect old r s t opposite solid x y =
     let f : Corner → ℤ = λ c. if int_le c.x x && int_le c.y y then c.sign else pos 0 in
-    let one : List Corner = old ++ corner r.x0 r.y0 (pos 1) ∷ [] in
-    let two : List Corner = one ++ corner r.x1 r.y0 (negsuc 0) ∷ [] in
-    let three : List Corner = two ++ corner r.x0 r.y1 (negsuc 0) ∷ [] in
-    let a = sum_each-push f old (corner r.x0 r.y0 (pos 1)) in
-    let b = sum_each-push f one (corner r.x1 r.y0 (negsuc 0)) in
-    let c = sum_each-push f two (corner r.x0 r.y1 (negsuc 0)) in
-    let d = sum_each-push f three (corner r.x1 r.y1 (pos 1)) in
-    let parts = four_corners r.x0 r.x1 r.y0 r.y1 x y solid.wide solid.high in omega (arith, ints)
+    let one : List Corner = old ++ corner r.x0 r.y0 s ∷ [] in
+    let two : List Corner = one ++ corner r.x1 r.y0 t ∷ [] in
+    let three : List Corner = two ++ corner r.x0 r.y1 t ∷ [] in
+    let a = sum_each-push f old (corner r.x0 r.y0 s) in
+    let b = sum_each-push f one (corner r.x1 r.y0 t) in
+    let c = sum_each-push f two (corner r.x0 r.y1 t) in
+    let d = sum_each-push f three (corner r.x1 r.y1 s) in
+    let parts = four_corners r.x0 r.x1 r.y0 r.y1 x y s t opposite solid.wide solid.high in omega (arith, ints)
+
+pub pushes_within : (old : List Corner) (r : Rect) (s t : ℤ) → All IsCornerWithin old → IsRectWithin 1048576 r → All IsCornerWithin (with_rect old r s t)
+pushes_within old r s t within near =
+    let one : List Corner = old ++ corner r.x0 r.y0 s ∷ [] in
+    let two : List Corner = one ++ corner r.x1 r.y0 t ∷ [] in
+    let three : List Corner = two ++ corner r.x0 r.y1 t ∷ [] in
+    All-push IsCornerWithin three (corner r.x1 r.y1 s)
+    (All-push IsCornerWithin two (corner r.x0 r.y1 t)
+    (All-push IsCornerWithin one (corner r.x1 r.y0 t)
+    (All-push IsCornerWithin old (corner r.x0 r.y0 s) within (near.0, near.1)) (near.2, near.1)) (near.0, near.3)) (near.2, near.3)
 
 -- ---- canonical rectangles
 

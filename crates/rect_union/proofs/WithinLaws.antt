@@ -13,11 +13,11 @@ use Rattle.opc_base.specs.Cover.{AreRectangles, IsPlaced, IsPolygon, crossings, 
 use Rattle.opc_base.specs.Target.{target}
 use Rattle.rect_union.proofs.LowerSides.{known}
 
-record IsInLimit (x y : ℤ) : Type 0 where
-  pub left : neg_ℤ (pos 1048000) ≤ℤ x
-  pub right : x <ℤ pos 1048000
-  pub low : neg_ℤ (pos 1048000) ≤ℤ y
-  pub high : y <ℤ pos 1048000
+pub record IsInLimit (limit : ℕ) (x y : ℤ) : Type 0 where
+  pub left : neg_ℤ (pos limit) ≤ℤ x
+  pub right : x <ℤ pos limit
+  pub low : neg_ℤ (pos limit) ≤ℤ y
+  pub high : y <ℤ pos limit
 
 -- ---- polygons
 
@@ -53,7 +53,7 @@ none_level p (q ∷ points) x y z same =
     let here = no_difference (int_le p.x x) (step q.y y) (step p.y y) (same 1 q (omega arith) ∙ sym (same 0 p (omega arith))) in
     let rest = none_level q points x y z (λ k d below. same (suc k) d (omega arith)) in omega (arith, ints)
 
-polygon_within : (points : List Pix) (x y : ℤ) → IsPolygon points → crossings points x y ≢ pos 0 → IsInLimit x y
+polygon_within : (points : List Pix) (x y : ℤ) → IsPolygon points → crossings points x y ≢ pos 0 → IsInLimit 1048000 x y
 polygon_within [] x y polygon some = absurd polygon.closed
 polygon_within (p ∷ points) x y polygon some = record {
   left = by_lt_z x (neg_ℤ (pos 1048000))
@@ -75,18 +75,18 @@ polygon_within (p ∷ points) x y polygon some = record {
 
 -- ---- paths
 
-rect_within : (r : Rect) (x y : ℤ) → IsRectWithin 1048000 r → rect_cover r x y ≡ true → IsInLimit x y
-rect_within r x y near is =
+rect_within : (limit : ℕ) (r : Rect) (x y : ℤ) → IsRectWithin limit r → rect_cover r x y ≡ true → IsInLimit limit x y
+rect_within limit r x y near is =
     let a = near.0 in let b = near.1 in let c = near.2 in let d = near.3 in
     let from : r.x0 ≤ℤ x = grind (arith, ints) in let to : x <ℤ r.x1 = grind (arith, ints) in
     let bottom : r.y0 ≤ℤ y = grind (arith, ints) in let top : y <ℤ r.y1 = grind (arith, ints) in
     record { left = omega (arith, ints); right = omega (arith, ints); low = omega (arith, ints); high = omega (arith, ints) }
 
-rects_within : (rects : List Rect) (x y : ℤ) → All (IsRectWithin 1048000) rects → cover rects x y ≡ true → IsInLimit x y
-rects_within [] x y near is = absurd (cc)
-rects_within (r ∷ rects) x y near is = elim (known (rect_cover r x y)) [
-  | inl here ↦ rect_within r x y (near 0 r (omega arith)) here
-  | inr off ↦ rects_within rects x y (λ k d below. near (suc k) d (omega arith)) (ap (λ b. b || cover rects x y) (sym off) ∙ is)
+pub rects_within : (limit : ℕ) (rects : List Rect) (x y : ℤ) → All (IsRectWithin limit) rects → cover rects x y ≡ true → IsInLimit limit x y
+rects_within limit [] x y near is = absurd (cc)
+rects_within limit (r ∷ rects) x y near is = elim (known (rect_cover r x y)) [
+  | inl here ↦ rect_within limit r x y (near 0 r (omega arith)) here
+  | inr off ↦ rects_within limit rects x y (λ k d below. near (suc k) d (omega arith)) (ap (λ b. b || cover rects x y) (sym off) ∙ is)
 ]
 
 -- ---- the target
@@ -94,11 +94,11 @@ rects_within (r ∷ rects) x y near is = elim (known (rect_cover r x y)) [
 not_zero : (z : ℤ) → not (int_eq z (pos 0)) ≡ true → z ≢ pos 0
 not_zero z is none = (let zero = ap (λ t. not (int_eq t (pos 0))) none in let never : false ≡ true = sym zero ∙ is in cc)
 
-outline_within : (o : Outline) (x y : ℤ) → IsPlaced o → outline_cover o x y ≡ true → IsInLimit x y
+outline_within : (o : Outline) (x y : ℤ) → IsPlaced o → outline_cover o x y ≡ true → IsInLimit 1048000 x y
 outline_within (Polygon points) x y placed is = polygon_within points x y placed (not_zero (crossings points x y) is)
-outline_within (Path rects) x y placed is = rects_within rects x y placed.within is
+outline_within (Path rects) x y placed is = rects_within 1048000 rects x y placed.within is
 
-target_within : (outlines : List Outline) (x y : ℤ) → All IsPlaced outlines → target outlines x y ≡ true → IsInLimit x y
+target_within : (outlines : List Outline) (x y : ℤ) → All IsPlaced outlines → target outlines x y ≡ true → IsInLimit 1048000 x y
 target_within [] x y placed is = absurd (cc)
 target_within (o ∷ outlines) x y placed is = elim (known (outline_cover o x y)) [
   | inl here ↦ outline_within o x y (placed 0 o (omega arith)) here
@@ -113,11 +113,11 @@ pub rects_are_within : (outlines : List Outline) (rects : List Rect) → All IsP
     → ((x y : ℤ) → cover rects x y ≡ target outlines x y) → All (IsRectWithin 1048000) rects
 rects_are_within outlines rects placed canonical pixels k d below =
     let solid = canonical.solid k d below in let wide = solid.wide in let tall = solid.high in
-    let covered : (x y : ℤ) → rect_cover (get_or rects k d) x y ≡ true → IsInLimit x y = λ x y is.
+    let covered : (x y : ℤ) → rect_cover (get_or rects k d) x y ≡ true → IsInLimit 1048000 x y = λ x y is.
         target_within outlines x y placed (sym (pixels x y) ∙ list_any_at (λ r. rect_cover r x y) rects k d below is) in
-    let first : IsInLimit (get_or rects k d).x0 (get_or rects k d).y0 = covered (get_or rects k d).x0 (get_or rects k d).y0
+    let first : IsInLimit 1048000 (get_or rects k d).x0 (get_or rects k d).y0 = covered (get_or rects k d).x0 (get_or rects k d).y0
     (inside (get_or rects k d) (get_or rects k d).x0 (get_or rects k d).y0 (omega (arith, ints)) wide (omega (arith, ints)) tall) in
-    let last : IsInLimit ((get_or rects k d).x1 -ℤ pos 1) ((get_or rects k d).y1 -ℤ pos 1) = covered ((get_or rects k d).x1 -ℤ pos 1) ((get_or rects k d).y1 -ℤ pos 1)
+    let last : IsInLimit 1048000 ((get_or rects k d).x1 -ℤ pos 1) ((get_or rects k d).y1 -ℤ pos 1) = covered ((get_or rects k d).x1 -ℤ pos 1) ((get_or rects k d).y1 -ℤ pos 1)
     (inside (get_or rects k d) ((get_or rects k d).x1 -ℤ pos 1) ((get_or rects k d).y1 -ℤ pos 1) (omega (arith, ints)) (omega (arith, ints)) (omega (arith, ints)) (omega (arith, ints))) in
     let a = first.left in let b = first.low in let e = first.right in let f = first.high in
     let g = last.left in let h = last.low in let i = last.right in let j = last.high in

@@ -1,8 +1,9 @@
 -- Sets of pixels that are given by signed corners.
-use Rattle.std.specs.Prelude.{◌≡◌, ◌⊎◌, ◌≤◌, ℤ, pos, ◌≤ℤ◌, unsigned_abs, List, All}
+use Rattle.std.specs.Prelude.{◌≡◌, ◌⊎◌, ◌≤◌, ℤ, pos, ◌≤ℤ◌, unsigned_abs, if◌then◌else◌, List, All}
 use Rattle.std.specs.Ordering.{int_eq}
 use Rattle.opc_base.specs.declared.plane.Corner.{Corner}
-use Rattle.opc_base.specs.Plane.{PixelSet}
+use Rattle.opc_base.specs.declared.plane.Rect.{Rect}
+use Rattle.opc_base.specs.Plane.{PixelSet, rect_cover}
 use Rattle.opc_base.specs.Corners.{quadrant_sum}
 
 -- the pixels at which the signs of the corners at or left of it and at or below it add up to 1
@@ -18,3 +19,10 @@ pub record AreCornersOfSet (corners : List Corner) : Type 0 where
   pub within : All IsCornerWithin corners
   pub none_right : (x y : ℤ) → pos 1048576 ≤ℤ x → quadrant_sum corners x y ≡ pos 0
   pub none_above : (x y : ℤ) → pos 1048576 ≤ℤ y → quadrant_sum corners x y ≡ pos 0
+
+-- the sign at each pixel of a rectangle, and 0 elsewhere
+abbrev pub rect_sign : ℤ → Rect → ℤ → ℤ → ℤ
+rect_sign sign r x y = if rect_cover r x y then sign else pos 0
+
+abbrev pub corner : ℤ → ℤ → ℤ → Corner
+corner x y sign = record { x = x; y = y; sign = sign }

@@ -12,3 +12,4 @@ pub mod Corners
 pub mod CornerSets
 pub mod CornerCount
 pub mod Merging
+pub mod Touches

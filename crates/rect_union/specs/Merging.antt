@@ -2,6 +2,8 @@
 use Rattle.std.specs.Prelude.{◌≡◌, ◌≢◌, ◌⊎◌, ℕ, ◌+◌, ◌<◌, ◌≤◌, ℤ, pos, ◌+ℤ◌, ◌<ℤ◌, unsigned_abs, ◌&&◌, if◌then◌else◌, List, [], ◌∷◌, ◌++◌, length, get_or, take, All, AllPairs}
 use Rattle.std.specs.Ordering.{int_eq}
 use Rattle.opc_base.specs.Sums.{sum_each}
+use Rattle.opc_base.specs.Plane.{PixelSet}
+use Rattle.opc_base.specs.Corners.{sign_at}
 use Rattle.rect_union.specs.declared.quadrants.Quadrant.{Quadrant}
 use Rattle.rect_union.specs.Quadrants.{quadrant_weight}
 
@@ -22,6 +24,12 @@ pub record AreMerged (quadrants merged : List Quadrant) : Type 0 where
   pub ascending : AllPairs IsBefore merged
   pub signed : All (λ q. q.column.sign ≢ pos 0) merged
   pub sums : (x y : ℤ) → signs_there merged x y ≡ signs_there quadrants x y
+
+-- the corners of a set, each once, by rows from the bottom
+pub record AreCornersIn (pixels : PixelSet) (merged : List Quadrant) : Type 0 where
+  pub ascending : AllPairs IsBefore merged
+  pub signed : All (λ q. q.column.sign ≢ pos 0) merged
+  pub signs : (x y : ℤ) → sign_at pixels x y ≡ signs_there merged x y
 
 abbrev pub IsAtPointOf : Quadrant → Quadrant → Type 0
 IsAtPointOf p q = (p.y ≡ q.y) × (p.column.x ≡ q.column.x)

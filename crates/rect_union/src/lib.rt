@@ -16,4 +16,5 @@ mod target;
 mod windings;
 
 pub use corners::region_of;
+pub use rect_corners::{first_touch, push_corners};
 pub use target::{UnionFault, union};

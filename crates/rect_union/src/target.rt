@@ -9,7 +9,7 @@ use crate::outlines::quadrants_of;
 use crate::rect_corners::count_corners;
 use crate::quadrants::sort_rows;
 use crate::sweep::region_of_quadrants;
-use opc_base::{Placed, Rect, Region};
+use opc_base::{NoMemory, Placed, Rect, Region};
 use std::alloc::{AllocError, Global};
 
 /// Why a target is not given.
@@ -39,6 +39,17 @@ impl From<AllocError> for UnionFault {
     ghost from_gives = { λ _ e. e ≡ NoMemory };
 
     fn from(_: AllocError) -> Self {
+        UnionFault::NoMemory
+    }
+}
+
+impl From<NoMemory> for UnionFault {
+    ghost use Rattle.std.specs.Prelude.{◌≡◌};
+    ghost use Rattle.rect_union.specs.declared.target.UnionFault.TheVariants.{NoMemory};
+
+    ghost from_gives = { λ _ e. e ≡ NoMemory };
+
+    fn from(_: NoMemory) -> Self {
         UnionFault::NoMemory
     }
 }

@@ -13,7 +13,7 @@ loop-index-preserved c =
     let left_fits : SFits w128 c.in_ok-sign.sign = search rules in
     let sign_fits : SFits w128 c.loop-index.sign = search rules in
     let own_fits : SFits w128 (get_or c.args.quadrants.now c.loop-index.index quadrant).column.sign = search rules in
-    let so_far = simp (c.loop-index.sign-is, to_z-of_z) at c.loop-index.invariant in
+    let so_far = simp c.loop-index.sign-is at c.loop-index.invariant in
     let small = merging_fits c.args.quadrants.now c.loop-index.index (2 ^ 126) c.loop-index.sign c.loop-index.merged.items quadrant at c.requires.small so_far in
     let sum_fits : SFits w128 (c.loop-index.sign +ℤ (get_or c.args.quadrants.now c.loop-index.index quadrant).column.sign) =
     fits_signed_from_abs w128 (c.loop-index.sign +ℤ (get_or c.args.quadrants.now c.loop-index.index quadrant).column.sign) (omega arith) in
@@ -26,5 +26,5 @@ pub returns : goal.returns
 returns c =
     let quadrant : Quadrant = record { y = pos 0; column = record { x = pos 0; owner = 0; sign = pos 0 } } in
     let sign_fits : SFits w128 c.loop-index.sign = search rules in
-    let so_far = simp (c.loop-index.sign-is, to_z-of_z) at c.loop-index.invariant in
+    let so_far = simp c.loop-index.sign-is at c.loop-index.invariant in
     record { merged = merging_ends c.args.quadrants.now c.loop-index.index c.loop-index.sign c.loop-index.merged.items quadrant (omega arith) so_far }
