@@ -44,15 +44,15 @@ pushes_rect old r s t opposite solid x y =
     let d = sum_each-push f three (corner r.x1 r.y1 s) in
     let parts = four_corners r.x0 r.x1 r.y0 r.y1 x y s t opposite solid.wide solid.high in omega (arith, ints)
 
-pub pushes_within : (old : List Corner) (r : Rect) (s t : ℤ) → All IsCornerWithin old → IsRectWithin 1048576 r → All IsCornerWithin (with_rect old r s t)
+pub pushes_within : (old : List Corner) (r : Rect) (s t : ℤ) → All (IsCornerWithin 1048576) old → IsRectWithin 1048576 r → All (IsCornerWithin 1048576) (with_rect old r s t)
 pushes_within old r s t within near =
     let one : List Corner = old ++ corner r.x0 r.y0 s ∷ [] in
     let two : List Corner = one ++ corner r.x1 r.y0 t ∷ [] in
     let three : List Corner = two ++ corner r.x0 r.y1 t ∷ [] in
-    All-push IsCornerWithin three (corner r.x1 r.y1 s)
-    (All-push IsCornerWithin two (corner r.x0 r.y1 t)
-    (All-push IsCornerWithin one (corner r.x1 r.y0 t)
-    (All-push IsCornerWithin old (corner r.x0 r.y0 s) within (near.0, near.1)) (near.2, near.1)) (near.0, near.3)) (near.2, near.3)
+    All-push (IsCornerWithin 1048576) three (corner r.x1 r.y1 s)
+    (All-push (IsCornerWithin 1048576) two (corner r.x0 r.y1 t)
+    (All-push (IsCornerWithin 1048576) one (corner r.x1 r.y0 t)
+    (All-push (IsCornerWithin 1048576) old (corner r.x0 r.y0 s) within (near.0, near.1)) (near.2, near.1)) (near.0, near.3)) (near.2, near.3)
 
 -- ---- canonical rectangles
 

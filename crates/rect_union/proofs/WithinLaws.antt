@@ -3,6 +3,7 @@ use Rattle.std.proofs.Common.{◌≡◌, ◌≢◌, ◌⊎◌, inl, inr, ℕ, su
 use Rattle.std.specs.Prelude.{All}
 use Rattle.std.proofs.lemmas.Int.{ints, by_lt_z}
 use Rattle.std.proofs.lemmas.List.Folds.{list_any_at}
+use Rattle.opc_base.specs.declared.plane.Corner.{Corner}
 use Rattle.opc_base.specs.declared.plane.Pix.{Pix}
 use Rattle.opc_base.specs.declared.plane.Rect.{Rect}
 use Rattle.opc_base.specs.declared.outline.Outline.{Outline}
@@ -11,7 +12,11 @@ use Rattle.opc_base.specs.Plane.{IsRectWithin, cover, rect_cover}
 use Rattle.opc_base.specs.Canonical.{AreCanonical}
 use Rattle.opc_base.specs.Cover.{AreRectangles, IsPlaced, IsPolygon, crossings, crossings_from, last_from, outline_cover, step}
 use Rattle.opc_base.specs.Target.{target}
+use Rattle.opc_base.specs.Corners.{quadrant_sum}
+use Rattle.opc_base.specs.Sums.{sum_each}
+use Rattle.rect_union.specs.CornerSets.{AreCornersOfSet, IsCornerWithin, corner_set}
 use Rattle.rect_union.proofs.LowerSides.{known}
+use Rattle.rect_union.proofs.SumLaws.{sum_each-same}
 
 pub record IsInLimit (limit : ℕ) (x y : ℤ) : Type 0 where
   pub left : neg_ℤ (pos limit) ≤ℤ x
@@ -108,17 +113,75 @@ target_within (o ∷ outlines) x y placed is = elim (known (outline_cover o x y)
 inside : (r : Rect) (x y : ℤ) → r.x0 ≤ℤ x → x <ℤ r.x1 → r.y0 ≤ℤ y → y <ℤ r.y1 → rect_cover r x y ≡ true
 inside r x y left right low high = grind (arith, ints)
 
--- the rectangles lie within the limit
-pub rects_are_within : (outlines : List Outline) (rects : List Rect) → All IsPlaced outlines → AreCanonical rects
-    → ((x y : ℤ) → cover rects x y ≡ target outlines x y) → All (IsRectWithin 1048000) rects
-rects_are_within outlines rects placed canonical pixels k d below =
+-- rectangles lie within the limit of the pixels that they cover
+pub rects_in_limit : (limit : ℕ) (rects : List Rect) → AreCanonical rects → ((x y : ℤ) → cover rects x y ≡ true → IsInLimit limit x y) → All (IsRectWithin limit) rects
+rects_in_limit limit rects canonical inside_limit k d below =
     let solid = canonical.solid k d below in let wide = solid.wide in let tall = solid.high in
-    let covered : (x y : ℤ) → rect_cover (get_or rects k d) x y ≡ true → IsInLimit 1048000 x y = λ x y is.
-        target_within outlines x y placed (sym (pixels x y) ∙ list_any_at (λ r. rect_cover r x y) rects k d below is) in
-    let first : IsInLimit 1048000 (get_or rects k d).x0 (get_or rects k d).y0 = covered (get_or rects k d).x0 (get_or rects k d).y0
+    let covered : (x y : ℤ) → rect_cover (get_or rects k d) x y ≡ true → IsInLimit limit x y = λ x y is.
+        inside_limit x y (list_any_at (λ r. rect_cover r x y) rects k d below is) in
+    let first : IsInLimit limit (get_or rects k d).x0 (get_or rects k d).y0 = covered (get_or rects k d).x0 (get_or rects k d).y0
     (inside (get_or rects k d) (get_or rects k d).x0 (get_or rects k d).y0 (omega (arith, ints)) wide (omega (arith, ints)) tall) in
-    let last : IsInLimit 1048000 ((get_or rects k d).x1 -ℤ pos 1) ((get_or rects k d).y1 -ℤ pos 1) = covered ((get_or rects k d).x1 -ℤ pos 1) ((get_or rects k d).y1 -ℤ pos 1)
+    let last : IsInLimit limit ((get_or rects k d).x1 -ℤ pos 1) ((get_or rects k d).y1 -ℤ pos 1) = covered ((get_or rects k d).x1 -ℤ pos 1) ((get_or rects k d).y1 -ℤ pos 1)
     (inside (get_or rects k d) ((get_or rects k d).x1 -ℤ pos 1) ((get_or rects k d).y1 -ℤ pos 1) (omega (arith, ints)) (omega (arith, ints)) (omega (arith, ints)) (omega (arith, ints))) in
     let a = first.left in let b = first.low in let e = first.right in let f = first.high in
     let g = last.left in let h = last.low in let i = last.right in let j = last.high in
     (omega (arith, ints), omega (arith, ints), omega (arith, ints), omega (arith, ints))
+
+pub rects_are_within : (outlines : List Outline) (rects : List Rect) → All IsPlaced outlines → AreCanonical rects
+    → ((x y : ℤ) → cover rects x y ≡ target outlines x y) → All (IsRectWithin 1048000) rects
+rects_are_within outlines rects placed canonical pixels =
+    rects_in_limit 1048000 rects canonical (λ x y is. target_within outlines x y placed (sym (pixels x y) ∙ is))
+
+-- ---- corners
+
+left_part : (a x sign : ℤ) (other : Bool) → x <ℤ a → (if int_le a x && other then sign else pos 0) ≡ pos 0
+left_part a x sign other right = grind (arith, ints)
+
+low_part : (a x sign : ℤ) (other : Bool) → x <ℤ a → (if other && int_le a x then sign else pos 0) ≡ pos 0
+low_part a x sign other right = grind (arith, ints)
+
+right_part : (a x z sign : ℤ) (other : Bool) → a ≤ℤ x → a ≤ℤ z → (if int_le a x && other then sign else pos 0) ≡ (if int_le a z && other then sign else pos 0)
+right_part a x z sign other first second = grind (arith, ints)
+
+high_part : (a x z sign : ℤ) (other : Bool) → a ≤ℤ x → a ≤ℤ z → (if other && int_le a x then sign else pos 0) ≡ (if other && int_le a z then sign else pos 0)
+high_part a x z sign other first second = grind (arith, ints)
+
+sum_of_none : (f : Corner → ℤ) (corners : List Corner) → ((k : ℕ) (d : Corner) → k < length corners → f (get_or corners k d) ≡ pos 0) → sum_each f corners ≡ pos 0
+unfolding sum_each
+sum_of_none f [] none = refl
+sum_of_none f (c ∷ corners) none =
+    let here : f c ≡ pos 0 = none 0 c (omega arith) in
+    let rest = sum_of_none f corners (λ k d below. none (suc k) d (omega arith)) in omega (arith, ints)
+
+not_one : (z : ℤ) → z ≡ pos 0 → int_eq z (pos 1) ≡ true → ⊥
+not_one z none is = (let zero = ap (λ t. int_eq t (pos 1)) none in let never : false ≡ true = sym zero ∙ is in cc)
+
+corners_cover_within : (limit : ℕ) (corners : List Corner) (x y : ℤ) → limit ≤ 1048576 → All (IsCornerWithin limit) corners → AreCornersOfSet corners
+    → corner_set corners x y ≡ true → IsInLimit limit x y
+corners_cover_within limit corners x y most near set is = record {
+  left = by_lt_z x (neg_ℤ (pos limit))
+      (λ less. absurd (not_one (quadrant_sum corners x y) (sum_of_none (λ c. if int_le c.x x && int_le c.y y then c.sign else pos 0) corners
+      (λ k d below. let here = (near k d below).0 in left_part (get_or corners k d).x x (get_or corners k d).sign (int_le (get_or corners k d).y y) (omega (arith, ints)))) is))
+      (λ most. most);
+  right = by_lt_z x (pos limit)
+      (λ less. less)
+      (λ far. absurd (not_one (quadrant_sum corners x y)
+      (sum_each-same (λ c. if int_le c.x x && int_le c.y y then c.sign else pos 0) (λ c. if int_le c.x (pos 1048576) && int_le c.y y then c.sign else pos 0) corners
+      (λ k d below. let here = (near k d below).0 in right_part (get_or corners k d).x x (pos 1048576) (get_or corners k d).sign (int_le (get_or corners k d).y y) (omega (arith, ints)) (omega (arith, ints)))
+      ∙ set.none_right (pos 1048576) y (omega (arith, ints))) is));
+  low = by_lt_z y (neg_ℤ (pos limit))
+      (λ less. absurd (not_one (quadrant_sum corners x y) (sum_of_none (λ c. if int_le c.x x && int_le c.y y then c.sign else pos 0) corners
+      (λ k d below. let here = (near k d below).1 in low_part (get_or corners k d).y y (get_or corners k d).sign (int_le (get_or corners k d).x x) (omega (arith, ints)))) is))
+      (λ most. most);
+  high = by_lt_z y (pos limit)
+      (λ less. less)
+      (λ far. absurd (not_one (quadrant_sum corners x y)
+      (sum_each-same (λ c. if int_le c.x x && int_le c.y y then c.sign else pos 0) (λ c. if int_le c.x x && int_le c.y (pos 1048576) then c.sign else pos 0) corners
+      (λ k d below. let here = (near k d below).1 in high_part (get_or corners k d).y y (pos 1048576) (get_or corners k d).sign (int_le (get_or corners k d).x x) (omega (arith, ints)) (omega (arith, ints)))
+      ∙ set.none_above x (pos 1048576) (omega (arith, ints))) is));
+}
+
+pub corner_rects_within : (limit : ℕ) (corners : List Corner) (rects : List Rect) → AreCornersOfSet corners → AreCanonical rects
+    → ((x y : ℤ) → cover rects x y ≡ corner_set corners x y) → limit ≤ 1048576 → All (IsCornerWithin limit) corners → All (IsRectWithin limit) rects
+corner_rects_within limit corners rects set canonical pixels most near =
+    rects_in_limit limit rects canonical (λ x y is. corners_cover_within limit corners x y most near set (sym (pixels x y) ∙ is))

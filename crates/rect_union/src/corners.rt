@@ -1,9 +1,9 @@
 //! Regions that are given by signed corners.
 
-ghost use Rattle.std.specs.Prelude.{◌≡◌, ◌≤◌, ℤ, map, length, unsigned_abs, IfOk};
+ghost use Rattle.std.specs.Prelude.{◌≡◌, ◌≤◌, ℕ, ℤ, All, map, length, unsigned_abs, IfOk};
 ghost use Rattle.opc_base.specs.Canonical.{AreCanonical, IsCanonical};
-ghost use Rattle.opc_base.specs.Plane.{cover};
-ghost use Rattle.rect_union.specs.CornerSets.{AreCornersOfSet, corner_set};
+ghost use Rattle.opc_base.specs.Plane.{IsRectWithin, cover};
+ghost use Rattle.rect_union.specs.CornerSets.{AreCornersOfSet, IsCornerWithin, corner_set};
 ghost use Rattle.rect_union.specs.Corners.{HaveSmallSigns, corner_quadrant};
 
 use crate::columns::Column;
@@ -19,6 +19,7 @@ pub fn region_of(alloc: Global, corners: &[Corner]) -> Result<Region, NoMemory>
     ensures canonical { IfOk result (IsCanonical (corner_set corners.now)) }
     ensures pixels { IfOk result (λ region. (x y : ℤ) → cover region x y ≡ corner_set corners.now x y) }
     ensures few { IfOk result (λ region. length region ≤ length corners.now) }
+    ensures within { IfOk result (λ region. (most : ℕ) → most ≤ 1048576 → All (IsCornerWithin most) corners.now → All (IsRectWithin most) region) }
 {
     Ok(Region::from_rects(corner_rects(alloc, corners)?))
 }

@@ -90,7 +90,7 @@ pub fn push_corners(corners: &mut Vec<Corner>, rect: &Rect, sign: i8) -> Result<
     requires solid { IsSolid rect.now }
     requires sign { (sign ≡ pos 1) ⊎ (sign ≡ negsuc 0) }
     ensures sums { OnOk result ((x y : ℤ) → quadrant_sum corners.new.items x y ≡ quadrant_sum corners.old.items x y +ℤ rect_sign sign rect.now x y) }
-    ensures within { OnOk result (All IsCornerWithin corners.old.items → IsRectWithin 1048576 rect.now → All IsCornerWithin corners.new.items) }
+    ensures within { OnOk result (All (IsCornerWithin 1048576) corners.old.items → IsRectWithin 1048576 rect.now → All (IsCornerWithin 1048576) corners.new.items) }
 {
     push_corner(corners, rect.x0, rect.y0, sign)?;
     push_corner(corners, rect.x1, rect.y0, -sign)?;
