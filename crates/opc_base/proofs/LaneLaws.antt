@@ -98,7 +98,7 @@ product_of_lane-within lane a b n small = either (nat_eq (lane % 2) 0) (product_
     either false x y fits_x fits_y = fits_y
 
 -- what an uncovered pixel gives
-uncovered-within : (set : KernelSet) (lane : ℕ) (u v : ℤ) → KeepsBounds set → unsigned_abs (passed_in_lane set lane set.uncovered u v) ≤ 2048
+pub uncovered-within : (set : KernelSet) (lane : ℕ) (u v : ℤ) → KeepsBounds set → unsigned_abs (passed_in_lane set lane set.uncovered u v) ≤ 2048
 uncovered-within set lane u v bounds = ⊎_elim
     (λ one. product_of_lane-within lane (entry_at set.reach (entries_of_lane set lane) u v) set.uncovered 2048
     (product-nothing (entry_at set.reach (entries_of_lane set lane) u v) set.uncovered one.uncovered))
