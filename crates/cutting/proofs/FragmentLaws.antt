@@ -17,7 +17,7 @@ use Rattle.outline_model.specs.declared.fragment.Join.TheVariants.{Cut, Corner}
 use Rattle.outline_model.specs.declared.piece.EdgePiece.{EdgePiece}
 use Rattle.outline_model.specs.Fragmentation.{AreFragments, ArePieces, piece_of}
 use Rattle.outline_model.specs.Lengths.{AreRules}
-use Rattle.outline_model.specs.Limits.{IsFragmentList}
+use Rattle.outline_model.specs.Limits.{IsFragmentList, IsPlacedFragment}
 use Rattle.outline_model.specs.Outline.{Point, finish_join, finish_place, fragment_at, is_rising, is_vertical, point_on, start_join, start_place}
 use Rattle.outline_model.specs.Ranges.{IsPlaced}
 use Rattle.outline_model.specs.Target.{IsBoundary, IsJoined, Names, finish_point, opens, start_point}
@@ -228,11 +228,6 @@ fragments_of_joined inside rules ps fs pieces joined = record {
 }
 
 -- ---- what is known of the fragments of a region
-
-record IsPlacedFragment (f : Fragment) : Type 0 where
-  edge : IsPlaced f.edge
-  lo : IsPlaced f.lo
-  hi : IsPlaced f.hi
 
 placed_fragment : (rects : List Rect) (fs : List Fragment) (k : ℕ) → All IsSolid rects → IsBoundary (cover rects) fs → k < length fs
     → IsPlacedFragment (fragment_at fs k)

@@ -1,9 +1,10 @@
 //! The list of a region's fragments.
-ghost use Rattle.std.specs.Prelude.{◌≡◌, ◌+ℤ◌, ◌<◌, ◌≤◌, ◌↔◌, ◌≤ℤ◌, ℤ, pos, negsuc, IfSome, IsNone, if◌then◌else◌, int_lt, length, slice_set, slice_index_or};
+ghost use Rattle.std.specs.Prelude.{◌≡◌, ◌+ℤ◌, ◌<◌, ◌≤◌, ◌↔◌, ◌≤ℤ◌, ℤ, pos, negsuc, IfOk, IfSome, IsNone, if◌then◌else◌, int_lt, length, slice_set, slice_index_or};
 
 use crate::site::{sign_of, site_of};
-use opc_base::{Pix, Swept};
+use opc_base::{NoMemory, Pix, Swept};
 use outline_model::{Fragment, Join, moved, rect_between};
+use std::alloc::Global;
 use std::marker::Model;
 
 /// The fragments of a region: its vertical edges by their lines from the left, then its horizontal ones by their lines
@@ -38,6 +39,15 @@ impl Fragments {
         ensures { result ≡ items.items }
     {
         Fragments { items }
+    }
+
+    /// A copy of the list.
+    pub(crate) fn copy_items(&self, alloc: Global) -> Result<Vec<Fragment>, NoMemory>
+        ensures items { IfOk result (λ items. items.items ≡ self.now) }
+        ensures list { IsFragmentList self.now }
+    {
+        let _ = &self.items;
+        Ok(Vec::from_slice(alloc, &self.items)?)
     }
 
     /// The number of fragments.

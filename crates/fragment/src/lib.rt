@@ -13,11 +13,14 @@
 //! sign, whatever the fragment's neighbours did before.
 #![tactic(auto)]
 
+mod area;
 mod fragments;
+mod near;
 mod region_cut;
 mod site;
 
 pub use cutting::{CutFault, MAX_FRAGMENTS};
 pub use fragments::Fragments;
+pub use near::{Meets, Near};
 pub use outline_model::{Fragment, Join};
 pub use region_cut::cut;
