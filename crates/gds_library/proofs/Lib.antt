@@ -4,3 +4,7 @@ pub mod NameSets
 pub mod Language
 pub mod Prefix
 pub mod Accepting
+pub mod Closing
+pub mod Gathering
+pub mod Drafting
+pub mod Reading
