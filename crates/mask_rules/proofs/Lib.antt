@@ -1,0 +1,4 @@
+pub mod Firsts
+pub mod LineSetLaws
+pub mod ShortLineLaws
+pub mod TargetLaws

@@ -1,0 +1,4 @@
+pub mod First
+pub mod LineSets
+pub mod ShortLines
+pub mod TargetRules
