@@ -118,8 +118,7 @@ entry_of_lane_at set lane column row kernel bounds in_columns in_rows within rea
 
 -- lanes that are small
 pub LanesAre-small : (set : KernelSet) (f : ℕ → ℤ) (most : ℕ) (xs : List ℤ) → LanesAre set f xs → ((lane : ℕ) → unsigned_abs (f lane) ≤ most) → AreSmall most xs
-LanesAre-small set f most xs lanes small lane =
-    ⊎_elim (λ below. rw (lanes.each lane below) (small lane)) (λ past. rw (get_or_past xs lane (pos 0) (omega (arith, lanes.count))) (omega arith)) (cases_lt lane (lane_count set))
+LanesAre-small set f most xs lanes small lane within = rw (lanes.each lane (omega (arith, lanes.count))) (small lane)
 
 -- ---- the lanes of a place, as the code takes them from the table
 abbrev pub start_of : ℕ → ℕ → ℕ → ℕ → ℕ

@@ -21,7 +21,7 @@ HoldsFirst set sums n = (row column lane : ℕ) → column < 2 * set.reach + 2 �
 
 -- each number is at most this far from 0
 abbrev pub AreSmall : ℕ → List ℤ → Type 0
-AreSmall most numbers = (i : ℕ) → unsigned_abs (slice_index_or numbers i (pos 0)) ≤ most
+AreSmall most numbers = (i : ℕ) → i < length numbers → unsigned_abs (slice_index_or numbers i (pos 0)) ≤ most
 
 -- what a row of the kernel adds to a lane's ground
 abbrev pub ground_row : KernelSet → ℕ → ℤ → ℤ
