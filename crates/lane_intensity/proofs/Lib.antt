@@ -1,2 +1,4 @@
-mod Vectors
+mod CornerSums
+mod PowerSums
 mod RectLaws
+mod Vectors

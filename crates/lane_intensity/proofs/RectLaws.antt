@@ -23,4 +23,3 @@ pub inward : (sign a b c d z : ℤ) → unsigned_abs sign ≡ 1 → sign ≤ℤ 
 inward sign a b c d z one under is =
     let minus : sign ≡ neg_ℤ (pos 1) = omega (arith, ints) in
     rw minus (omega (arith, ints, is))
-

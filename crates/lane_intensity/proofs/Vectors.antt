@@ -1,13 +1,13 @@
 -- Vectors of eight signed numbers.
-use Rattle.std.proofs.Common.{◌≡◌, ℕ, suc, ◌+◌, ◌^◌, ◌<◌, ◌≤◌, ℤ, pos, ◌+ℤ◌, ◌-ℤ◌, unsigned_abs, List, [], ◌∷◌, length, get_or, take, drop, map, ap, ap₂, ◌∙◌, sym, arith, zero-add, ◌-◌, SFits, to_z, of_z, to_z-of_z, w64}
-use Rattle.std.proofs.lemmas.Int.{ints}
-use Rattle.std.proofs.lemmas.List.{length-map, get_or-map}
+use Rattle.std.proofs.Common.{◌≡◌, ℕ, suc, ◌+◌, ◌^◌, ◌<◌, ◌≤◌, ℤ, pos, ◌+ℤ◌, ◌-ℤ◌, unsigned_abs, List, [], ◌∷◌, length, get_or, take, drop, map, ap, ap₂, ◌∙◌, sym, arith, zero-add, ◌-◌, SFits, to_z, of_z, to_z-of_z, w64, ◌*◌, ◌*ℤ◌, mul-le-mul, replicate}
+use Rattle.std.proofs.lemmas.Int.{ints, unsigned_abs-mul}
+use Rattle.std.proofs.lemmas.List.{length-map, get_or-map, length-replicate, get_or-replicate}
 use Rattle.std.proofs.lemmas.Simd.{length-zip2, get_or-zip2, length-chunk, get_or-chunk, get_or-put_chunk_at, get_or-put_chunk_below, get_or-put_chunk_above, length-put_chunk}
 use lib.Lanes.{Each2, zip2, put_chunk}
 use borrow.Rule.Simd.Lanes.{Asks2, act2}
 use borrow.Table.Row.{s_int}
-use mir.Syntax.{Op2, add, sub, signed}
-use Rattle.lane_intensity.specs.Differences.{AreLanes, four_lanes}
+use mir.Syntax.{Op2, add, mul, sub, signed}
+use Rattle.lane_intensity.specs.Differences.{AreLanes, four_lanes, times_lane}
 use Rattle.opc_base.specs.Changes.{RisesBetween}
 
 -- what an operator gives at each two lanes, and what it asks
@@ -85,6 +85,42 @@ module _ (m n : ℕ) (f g : ℕ → ℤ) (v w : List ℕ) (room : m + n < 2 ^ 63
         ∙ ap₂ (λ a b. of_z w64 (a -ℤ b)) (to_z-of_z (fits_left k below)) (to_z-of_z (fits_right k below));
   }
 
+module _ (m n : ℕ) (f g : ℕ → ℤ) (v w : List ℕ) (room_left : m < 2 ^ 63) (room_right : n < 2 ^ 63) (room : m * n < 2 ^ 63)
+    (left : Holds m f v) (right : Holds n g w) where
+  mul_fits_left : (k : ℕ) → k < 8 → SFits w64 (f k)
+  mul_fits_left k below = fits_by m (f k) (left.small k below) room_left
+
+  mul_fits_right : (k : ℕ) → k < 8 → SFits w64 (g k)
+  mul_fits_right k below = fits_by n (g k) (right.small k below) room_right
+
+  mul_small : (k : ℕ) → k < 8 → unsigned_abs (f k *ℤ g k) ≤ m * n
+  mul_small k below = rw (unsigned_abs-mul (f k) (g k)) (mul-le-mul (left.small k below) (right.small k below))
+
+  pub asks_mul : asks (mul signed) v w
+  asks_mul = each2_from _ v w 0 0 (left.count ∙ sym right.count) (λ k below. at_lane k (omega (arith, left.count)))
+    where
+      at_lane : (k : ℕ) → k < 8 → SFits w64 (to_z w64 (get_or v k 0) *ℤ to_z w64 (get_or w k 0))
+      at_lane k below =
+          rw (left.each k below, right.each k below, to_z-of_z (mul_fits_left k below), to_z-of_z (mul_fits_right k below))
+          (fits_by (m * n) (f k *ℤ g k) (mul_small k below) room)
+
+  pub Holds-mul : Holds (m * n) (λ k. f k *ℤ g k) (both (mul signed) v w)
+  Holds-mul = record {
+    count = length-zip2 _ v w (left.count ∙ sym right.count) ∙ left.count;
+    small = mul_small;
+    each = λ k below. get_or-zip2 (act2 (mul signed) (s_int w64) (s_int w64) (s_int w64)) v w k 0 0 0 (omega (arith, left.count)) (omega (arith, right.count))
+        ∙ ap₂ (λ a b. of_z w64 (to_z w64 a *ℤ to_z w64 b)) (left.each k below) (right.each k below)
+        ∙ ap₂ (λ a b. of_z w64 (a *ℤ b)) (to_z-of_z (mul_fits_left k below)) (to_z-of_z (mul_fits_right k below));
+  }
+
+-- one number in all lanes
+pub Holds-splat : (n : ℕ) (z : ℤ) → unsigned_abs z ≤ n → Holds n (λ k. z) (replicate 8 (of_z w64 z))
+Holds-splat n z small = record {
+  count = length-replicate 8 (of_z w64 z);
+  small = λ k below. small;
+  each = λ k below. get_or-replicate 8 k (of_z w64 z) 0 below;
+}
+
 -- ---- a store
 module _ (n : ℕ) (f : ℕ → ℤ) (v : List ℕ) (xs : List ℤ) (lane : ℕ) (holds : Holds n f v) where
   stored_length : length (map (to_z w64) v) ≡ 8
@@ -154,3 +190,23 @@ stored n change v sums lane holds within room = record {
   before = λ i below. stored_before v sums lane i below;
   after = λ i from. stored_after n _ v sums lane holds i from;
 }
+
+-- ---- the sum of a list and a number times another, in eight lanes
+module _ (lane : ℕ) (acc block : List ℤ) (times : ℤ)
+    (room : lane + 8 ≤ length acc) (small : (k : ℕ) → k < 8 → unsigned_abs (get_or acc (lane + k) (pos 0)) ≤ 2 ^ 62 + 2 ^ 48)
+    (few : unsigned_abs times ≤ 2) (lanes : AreLanes (length acc) (2 ^ 27) block) where
+  load_block : Holds (2 ^ 27) (λ k. get_or block (lane + k) (pos 0)) (loaded lane block)
+  load_block = Holds-load (2 ^ 27) block lane (omega (arith, lanes.count)) (λ k below. lanes.small (lane + k) (omega arith))
+
+  holds_times : Holds (2 * 2 ^ 27) (λ k. times_lane times block (lane + k)) (both (mul signed) (replicate 8 (of_z w64 times)) (loaded lane block))
+  holds_times = Holds-mul _ _ _ _ _ _ (omega arith) (omega arith) (omega arith) (Holds-splat 2 times few) load_block
+
+  pub asks_times : asks (mul signed) (replicate 8 (of_z w64 times)) (loaded lane block)
+  asks_times = asks_mul _ _ _ _ _ _ (omega arith) (omega arith) (omega arith) (Holds-splat 2 times few) load_block
+
+  pub asks_times_total : asks (add signed) (loaded lane acc) (both (mul signed) (replicate 8 (of_z w64 times)) (loaded lane block))
+  asks_times_total = asks_add _ _ _ _ _ _ (omega arith) (Holds-load (2 ^ 62 + 2 ^ 48) acc lane room small) holds_times
+
+  pub holds_times_total : Holds (2 ^ 62 + 2 ^ 48 + 2 * 2 ^ 27) (λ k. get_or acc (lane + k) (pos 0) +ℤ times_lane times block (lane + k))
+      (both (add signed) (loaded lane acc) (both (mul signed) (replicate 8 (of_z w64 times)) (loaded lane block)))
+  holds_times_total = Holds-add _ _ _ _ _ _ (omega arith) (Holds-load (2 ^ 62 + 2 ^ 48) acc lane room small) holds_times

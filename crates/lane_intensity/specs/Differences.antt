@@ -1,6 +1,8 @@
 -- What is added to lists of lanes, lane by lane.
-use Rattle.std.specs.Prelude.{◌≡◌, ℕ, ◌+◌, ◌*◌, ◌<◌, ◌≤◌, ℤ, pos, ◌+ℤ◌, ◌-ℤ◌, ◌*ℤ◌, unsigned_abs, List, length, slice_index_or}
-use Rattle.opc_base.specs.Sums.{sum_range}
+use Rattle.std.specs.Prelude.{◌≡◌, ℕ, ◌+◌, ◌*◌, ◌<◌, ◌≤◌, ℤ, pos, ◌+ℤ◌, ◌-ℤ◌, ◌*ℤ◌, ◌≤ℤ◌, All, unsigned_abs, List, length, slice_index_or}
+use Rattle.opc_base.specs.Lanes.{block_of_lane}
+use Rattle.opc_base.specs.Sums.{sum_each, sum_range}
+use Rattle.opc_base.specs.declared.kernels.KernelSet.{KernelSet}
 use Rattle.opc_base.specs.declared.plane.Corner.{Corner}
 
 -- a - b - c + d in a lane
@@ -21,7 +23,16 @@ pub record AreLanes (n most : ℕ) (lanes : List ℤ) : Type 0 where
 abbrev pub IsCornerWithin : ℕ → Corner → Type 0
 IsCornerWithin most c = (unsigned_abs c.x ≤ most) × (unsigned_abs c.y ≤ most) × (unsigned_abs c.sign ≤ 2)
 
+-- what a corner adds to a lane, as the pixel (x, y) sees it
+abbrev pub corner_change : KernelSet → Corner → ℤ → ℤ → ℕ → ℤ
+corner_change set c x y lane = c.sign *ℤ block_of_lane set lane (x -ℤ c.x) (y -ℤ c.y)
+
 -- ---- intensities
+
+-- weights of at least 1 that sum to at most 2048
+pub record IsLight (weights : List ℤ) : Type 0 where
+  pub some : All (λ w. pos 1 ≤ℤ w) weights
+  pub few : sum_each (λ w. w) weights ≤ℤ pos 2048
 
 -- what kernel j adds to an intensity: its weight times the power of its two lanes
 abbrev pub power_at : List ℤ → List ℤ → ℕ → ℤ

@@ -15,6 +15,10 @@
 //! the definition's intensity.
 #![tactic(auto)]
 
+mod corner_sums;
+mod image;
 mod rect_sums;
 
+pub use corner_sums::add_corners;
+pub use image::intensity;
 pub use rect_sums::add_rect;
