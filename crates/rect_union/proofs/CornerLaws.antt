@@ -1,5 +1,5 @@
 -- Signed corners as quadrants of one owner.
-use Rattle.std.proofs.Common.{◌≡◌, ◌⊎◌, inl, inr, ℕ, suc, ◌+◌, ◌*◌, ◌<◌, ◌≤◌, ℤ, pos, ◌+ℤ◌, ◌≤ℤ◌, int_eq, int_le, unsigned_abs, Bool, true, false, not, ◌&&◌, ◌==◌, if◌then◌else◌, List, [], ◌∷◌, length, get_or, map, refl, sym, ◌∙◌, ap, ap₂, subst, arith}
+use Rattle.std.proofs.Common.{◌≡◌, ◌⊎◌, inl, inr, ℕ, suc, ◌*◌, ◌<◌, ◌≤◌, ℤ, pos, ◌+ℤ◌, ◌≤ℤ◌, int_eq, int_le, unsigned_abs, Bool, true, false, not, ◌&&◌, ◌==◌, if◌then◌else◌, List, [], ◌∷◌, length, get_or, map, refl, sym, ◌∙◌, ap, ap₂, subst, arith}
 use Rattle.std.proofs.lemmas.Int.{ints}
 use Rattle.std.proofs.lemmas.Bool.Decides.{eqb_tells}
 use Rattle.std.proofs.lemmas.List.Elements.{All-map}
@@ -10,11 +10,11 @@ use Rattle.opc_base.specs.declared.plane.Corner.{Corner}
 use Rattle.rect_union.specs.declared.quadrants.Quadrant.{Quadrant}
 use Rattle.rect_union.specs.Sums.{any_set}
 use Rattle.opc_base.specs.Sums.{sum_each}
-use Rattle.rect_union.specs.CornerSets.{AreCornersOfSet, corner_set}
+use Rattle.rect_union.specs.CornerSets.{AreCornersOfSet}
 use Rattle.rect_union.specs.Corners.{AreQuadrantsOfCorners, HaveSmallSigns, corner_quadrant}
 use Rattle.opc_base.specs.Corners.{point_sum, quadrant_sum}
 use Rattle.rect_union.specs.Merging.{sign_there, signs_there}
-use Rattle.rect_union.specs.Quadrants.{HaveQuadrantOwnersBelow, column_part, is_wound, owner_part, quadrant_weight, winding}
+use Rattle.rect_union.specs.Quadrants.{HaveQuadrantOwnersBelow, column_part, owner_part, quadrant_weight, winding}
 use Rattle.rect_union.proofs.QuadrantLaws.{sum_each-IsPermutation}
 use Rattle.rect_union.proofs.SumLaws.{any_set-same}
 

@@ -1,14 +1,13 @@
 -- The lower side of a canonical rectangle has a corner of its own.
-use Rattle.std.proofs.Common.{◌≡◌, ◌≢◌, ◌⊎◌, inl, inr, ℕ, zero, suc, ◌+◌, ◌<◌, ◌≤◌, ℤ, pos, ◌+ℤ◌, ◌-ℤ◌, ◌≤ℤ◌, ◌<ℤ◌, int_eq, int_le, unsigned_abs, Bool, true, false, ◌&&◌, if◌then◌else◌, List, [], ◌∷◌, length, get_or, refl, sym, ◌∙◌, ap, subst, arith}
-use Rattle.std.specs.Prelude.{AllPairs, Contains}
+use Rattle.std.proofs.Common.{◌≡◌, ◌≢◌, ◌⊎◌, inl, inr, ℕ, zero, suc, ◌<◌, ◌≤◌, ℤ, pos, ◌+ℤ◌, ◌-ℤ◌, ◌≤ℤ◌, ◌<ℤ◌, int_eq, int_le, unsigned_abs, Bool, true, false, ◌&&◌, if◌then◌else◌, List, [], ◌∷◌, length, get_or, refl, sym, ◌∙◌, subst, arith}
+use Rattle.std.specs.Prelude.{Contains}
 use Rattle.std.proofs.lemmas.Int.{ints, by_lt_z}
 use Rattle.std.proofs.lemmas.List.{get_or_default}
 use Rattle.opc_base.specs.declared.plane.Pix.{Pix}
 use Rattle.opc_base.specs.declared.plane.Rect.{Rect}
-use Rattle.opc_base.specs.Plane.{PixelSet, cover, indicator}
+use Rattle.opc_base.specs.Plane.{PixelSet, cover}
 use Rattle.opc_base.specs.Corners.{sign_at}
-use Rattle.opc_base.specs.Runs.{IsRun}
-use Rattle.opc_base.specs.Canonical.{AreCanonical, IsCanonical, IsSolid, IsStack, Precedes, RunsInRow}
+use Rattle.opc_base.specs.Canonical.{AreCanonical, IsSolid, IsStack, Precedes, RunsInRow}
 use Rattle.opc_base.specs.Target.{AreDistinctCorners, HasMoreCornersThan}
 use Rattle.opc_base.proofs.CanonicalLaws.{canonical_for_cover}
 use Rattle.rect_union.specs.CornerCount.{HasAllCorners, HasCornerCount}
@@ -81,8 +80,8 @@ row_below : (pixels : PixelSet) (r : Rect) → RunsInRow pixels r r.y0 → HasNo
 row_below pixels r run none =
     let some = run.some in
     let all : (t : ℤ) → r.x0 ≤ℤ t → t <ℤ r.x1 → pixels t (r.y0 -ℤ pos 1) ≡ true = λ t from to.
-        let steps = ahead r.x0 t from in
-        subst (λ x. pixels x (r.y0 -ℤ pos 1) ≡ true) (sym steps.1) (row_below_from pixels r run none steps.0 (subst (λ x. x <ℤ r.x1) steps.1 to)) in
+    let steps = ahead r.x0 t from in
+    subst (λ x. pixels x (r.y0 -ℤ pos 1) ≡ true) (sym steps.1) (row_below_from pixels r run none steps.0 (subst (λ x. x <ℤ r.x1) steps.1 to)) in
     record {
       some = run.some;
       all = all;

@@ -1,6 +1,6 @@
 -- Sorted quadrants, merged point by point, are the corners of the set that they sum to.
-use Rattle.std.proofs.Common.{◌≡◌, ◌≢◌, ◌⊎◌, inl, inr, ℕ, zero, suc, ◌+◌, ◌<◌, ◌≤◌, ℤ, pos, ◌+ℤ◌, ◌≤ℤ◌, ◌<ℤ◌, int_eq, unsigned_abs, Bool, true, false, ◌&&◌, if◌then◌else◌, List, [], ◌∷◌, ◌++◌, length, get_or, map, take, take_all, refl, sym, ◌∙◌, ap, ap₂, subst, arith}
-use Rattle.std.specs.Prelude.{All, AllPairs, Contains}
+use Rattle.std.proofs.Common.{◌≡◌, ◌≢◌, ◌⊎◌, inl, inr, ℕ, zero, suc, ◌+◌, ◌<◌, ◌≤◌, ℤ, pos, ◌+ℤ◌, ◌≤ℤ◌, ◌<ℤ◌, int_eq, unsigned_abs, Bool, true, false, ◌&&◌, if◌then◌else◌, List, [], ◌∷◌, length, get_or, map, take_all, refl, sym, ◌∙◌, ap, ap₂, subst, arith}
+use Rattle.std.specs.Prelude.{AllPairs, Contains}
 use Rattle.std.proofs.lemmas.Int.{ints, by_lt_z}
 use Rattle.std.proofs.lemmas.List.{length-map, get_or-map, get_or_default}
 use Rattle.std.proofs.lemmas.List.Elements.{All-push, All-map}
@@ -10,9 +10,9 @@ use Rattle.opc_base.specs.declared.plane.Pix.{Pix}
 use Rattle.opc_base.specs.Sums.{sum_each}
 use Rattle.opc_base.specs.Plane.{PixelSet}
 use Rattle.opc_base.specs.Corners.{sign_at}
-use Rattle.opc_base.specs.Target.{AreDistinctCorners, IsCornerOf}
+use Rattle.opc_base.specs.Target.{IsCornerOf}
 use Rattle.rect_union.specs.declared.quadrants.Quadrant.{Quadrant}
-use Rattle.rect_union.specs.CornerCount.{HasAllCorners, HasCornerCount}
+use Rattle.rect_union.specs.CornerCount.{HasCornerCount}
 use Rattle.rect_union.specs.Merging.{AreCornersIn, AreMerged, EndsPoint, GoesOn, IsAtPointOf, IsBefore, IsMergingTo, PushesSigned, Settles, sign_there, signs_there, with_sign}
 use Rattle.rect_union.specs.Quadrants.{AreInRows, quadrant_weight}
 use Rattle.rect_union.proofs.LowerSides.{known}
@@ -246,6 +246,10 @@ corner_there pixels merged x y d are some =
     let below : at.0 < length merged = omega arith in
     let is : place_of (get_or merged at.0 d) ≡ record { x = x; y = y } = sym (get_or-map place_of merged at.0 d (record { x = x; y = y }) below) ∙ at.2 in
     let across : (get_or merged at.0 d).column.x ≡ x = ap (λ (p : Pix). p.x) is in
-    let up : (get_or merged at.0 d).y ≡ y = ap (λ (p : Pix). p.y) is in
-    (at.0, below, across, up,
-      sym (sign_of merged at.0 d are.ascending below) ∙ ap₂ (λ a b. signs_there merged a b) across up ∙ sym (are.signs x y))
+    let up : (get_or merged at.0 d).y ≡ y = ap (λ (p : Pix). p.y) is in (
+      at.0,
+      below,
+      across,
+      up,
+      sym (sign_of merged at.0 d are.ascending below) ∙ ap₂ (λ a b. signs_there merged a b) across up ∙ sym (are.signs x y),
+    )

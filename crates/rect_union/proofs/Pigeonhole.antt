@@ -48,13 +48,13 @@ at_most_partners {A} {B} R (x ∷ xs) ys partners apart =
     let shorter = length-without first.1.0 ys inside in
     let rest : length xs ≤ length (without first.1.0 ys) = at_most_partners R xs (without first.1.0 ys)
     (λ i d below.
-        let next = partners (suc i) d (omega arith) in
-        let there : next.1.0 < length ys = next.1.1 in
-        let its : get_or ys next.1.0 next.0 ≡ next.0 = next.1.2 in
-        let other : next.1.0 ≢ first.1.0 = λ same.
-            apart 0 (suc i) d (omega arith) (omega arith) next.0
-            (subst (R x) (sym is ∙ get_or_default ys first.1.0 first.0 next.0 inside ∙ ap (λ n. get_or ys n next.0) (sym same) ∙ its) related)
-            next.2 in
-        (next.0, Contains-without first.1.0 next.1.0 ys next.0 other there its, next.2))
+    let next = partners (suc i) d (omega arith) in
+    let there : next.1.0 < length ys = next.1.1 in
+    let its : get_or ys next.1.0 next.0 ≡ next.0 = next.1.2 in
+    let other : next.1.0 ≢ first.1.0 = λ same.
+    apart 0 (suc i) d (omega arith) (omega arith) next.0
+    (subst (R x) (sym is ∙ get_or_default ys first.1.0 first.0 next.0 inside ∙ ap (λ n. get_or ys n next.0) (sym same) ∙ its) related)
+    next.2 in
+    (next.0, Contains-without first.1.0 next.1.0 ys next.0 other there its, next.2))
     (λ i j d before below. apart (suc i) (suc j) d (omega arith) (omega arith)) in
     omega arith

@@ -1,5 +1,5 @@
 -- The signs at single points, from sums over quadrants.
-use Rattle.std.proofs.Common.{◌≡◌, ◌≢◌, ◌⊎◌, inl, inr, ℕ, zero, suc, ◌+◌, ◌<◌, ◌≤◌, ℤ, pos, ◌+ℤ◌, ◌-ℤ◌, ◌≤ℤ◌, ◌<ℤ◌, int_eq, int_le, Bool, true, false, ◌&&◌, if◌then◌else◌, List, [], ◌∷◌, length, map, refl, sym, ◌∙◌, ap, ap₂, subst, arith}
+use Rattle.std.proofs.Common.{◌≡◌, ◌≢◌, ◌⊎◌, inl, inr, suc, ◌≤◌, ℤ, pos, ◌+ℤ◌, ◌-ℤ◌, int_eq, int_le, Bool, true, false, ◌&&◌, if◌then◌else◌, List, [], ◌∷◌, length, map, refl, sym, ◌∙◌, ap, ap₂, arith}
 use Rattle.std.specs.Prelude.{Contains}
 use Rattle.std.proofs.lemmas.Int.{ints}
 use Rattle.std.proofs.lemmas.List.{length-map}
@@ -97,8 +97,8 @@ pub few_corner_rects : (corners : List Corner) (rects : List Rect) → AreCorner
     → ((x y : ℤ) → cover rects x y ≡ corner_set corners x y) → length rects ≤ length corners
 few_corner_rects corners rects set canonical pixels =
     let sums : (x y : ℤ) → quadrant_sum corners x y ≡ indicator (cover rects) x y = λ x y.
-        bit_sum (quadrant_sum corners x y) (set.bits x y) ∙ ap (λ (b : Bool). if b then pos 1 else pos 0) (sym (pixels x y)) in
+    bit_sum (quadrant_sum corners x y) (set.bits x y) ∙ ap (λ (b : Bool). if b then pos 1 else pos 0) (sym (pixels x y)) in
     let complete : HasAllCorners (cover rects) (map point_of corners) = λ x y corner.
-        has_point corners x y (λ none. corner (sign_of_corners (cover rects) corners sums x y ∙ none)) in
+    has_point corners x y (λ none. corner (sign_of_corners (cover rects) corners sums x y ∙ none)) in
     let few = at_most_corners rects (map point_of corners) canonical complete in
     let size : length (map point_of corners) ≡ length corners = simp length-map in omega arith

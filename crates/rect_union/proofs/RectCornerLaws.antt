@@ -1,5 +1,5 @@
 -- The four signed corners of each rectangle sum to how many rectangles cover a pixel.
-use Rattle.std.proofs.Common.{◌≡◌, inl, inr, ℕ, suc, ◌+◌, ◌<◌, ℤ, pos, negsuc, ◌+ℤ◌, ◌<ℤ◌, ◌≤ℤ◌, int_le, int_lt, Bool, true, false, ◌&&◌, ◌||◌, if◌then◌else◌, List, [], ◌∷◌, ◌++◌, length, get_or, refl, sym, ◌∙◌, ap, subst, arith}
+use Rattle.std.proofs.Common.{◌≡◌, inl, inr, ℕ, suc, ◌<◌, ℤ, pos, ◌+ℤ◌, ◌<ℤ◌, ◌≤ℤ◌, int_le, int_lt, Bool, true, false, ◌&&◌, ◌||◌, if◌then◌else◌, List, [], ◌∷◌, ◌++◌, length, get_or, refl, arith}
 use Rattle.std.proofs.lemmas.Int.{ints}
 use Rattle.opc_base.specs.declared.plane.Corner.{Corner}
 use Rattle.opc_base.specs.declared.plane.Rect.{Rect}
@@ -10,7 +10,7 @@ use Rattle.std.proofs.lemmas.List.Elements.{All-push}
 use Rattle.std.specs.Prelude.{All}
 use Rattle.rect_union.specs.CornerSets.{IsCornerWithin, corner, rect_sign}
 use Rattle.opc_base.specs.Sums.{sum_each}
-use Rattle.rect_union.specs.Outlines.{path_count, rect_count}
+use Rattle.rect_union.specs.Outlines.{path_count}
 use Rattle.rect_union.proofs.LowerSides.{known}
 use Rattle.rect_union.proofs.SumLaws.{sum_each-push}
 

@@ -1,6 +1,6 @@
 -- Points whose sign is 2 or -2 are those round which two pixels touch at a corner only.
-use Rattle.std.proofs.Common.{◌≡◌, ◌≢◌, ◌⊎◌, inl, inr, ℕ, ◌+◌, ◌<◌, ◌≤◌, ℤ, pos, negsuc, neg_ℤ, ◌+ℤ◌, ◌-ℤ◌, ◌≤ℤ◌, ◌<ℤ◌, Bool, true, false, if◌then◌else◌, Option, Some, None, List, length, get_or, refl, sym, ◌∙◌, ap, ap₂, subst, arith}
-use Rattle.std.specs.Prelude.{All, AllPairs, IfSome, IfNone}
+use Rattle.std.proofs.Common.{◌≡◌, ◌≢◌, inl, inr, ℕ, ◌<◌, ℤ, pos, neg_ℤ, ◌+ℤ◌, ◌-ℤ◌, ◌<ℤ◌, Bool, true, false, if◌then◌else◌, Option, Some, None, List, length, get_or, refl, sym, ◌∙◌, ap, ap₂, subst, arith}
+use Rattle.std.specs.Prelude.{All, IfSome, IfNone}
 use Rattle.std.proofs.lemmas.Int.{ints, by_lt_z}
 use Rattle.std.proofs.lemmas.Bool.{cases_order}
 use Rattle.std.proofs.lemmas.List.{get_or_default}
@@ -10,9 +10,8 @@ use Rattle.opc_base.specs.Plane.{IsRectWithin, PixelSet, cover}
 use Rattle.opc_base.specs.Corners.{sign_at}
 use Rattle.opc_base.specs.Runs.{IsCornerTouch}
 use Rattle.rect_union.specs.declared.quadrants.Quadrant.{Quadrant}
-use Rattle.rect_union.specs.Merging.{AreCornersIn, IsBefore}
-use Rattle.rect_union.specs.Touches.{ComesBefore, IsDouble, IsFirstDouble, IsFirstTouch, IsNearPoint}
-use Rattle.rect_union.proofs.LowerSides.{known}
+use Rattle.rect_union.specs.Merging.{AreCornersIn}
+use Rattle.rect_union.specs.Touches.{IsDouble, IsFirstDouble, IsFirstTouch, IsNearPoint}
 use Rattle.rect_union.proofs.MergingLaws.{corner_there, sign_of}
 use Rattle.rect_union.proofs.WithinLaws.{rects_within}
 
@@ -83,8 +82,8 @@ first_touch_is pixels merged p are first =
     let k : ℕ = first.k in
     let across = first.across d in let up = first.up d in
     let sign : sign_at pixels (p.x +ℤ pos 1) (p.y +ℤ pos 1) ≡ (get_or merged first.k d).column.sign =
-    sym (ap₂ (sign_at pixels) (first.across d) (first.up d)) ∙ are.signs (get_or merged first.k d).column.x (get_or merged first.k d).y ∙ sign_of merged first.k d are.ascending first.below in
-    (touch_if_double pixels p.x p.y (subst IsDouble (sym sign) (first.double d)),
+    sym (ap₂ (sign_at pixels) (first.across d) (first.up d)) ∙ are.signs (get_or merged first.k d).column.x (get_or merged first.k d).y ∙ sign_of merged first.k d are.ascending first.below in (
+      touch_if_double pixels p.x p.y (subst IsDouble (sym sign) (first.double d)),
       λ x y before touch.
           let double = double_if_touch pixels x y touch in
           let at = corner_there pixels merged (x +ℤ pos 1) (y +ℤ pos 1) d are (double_some (sign_at pixels (x +ℤ pos 1) (y +ℤ pos 1)) double) in
@@ -100,7 +99,8 @@ first_touch_is pixels merged p are first =
                 | inr row ↦ (let same_row = row.0 in let right = row.1 in elim before [ inl lower ↦ omega (arith, ints) | inr level ↦ (let left = level.1 in omega (arith, ints)) ])
               ]
             ]
-          ])
+          ],
+    )
 
 pub touch_found : (pixels : PixelSet) (merged : List Quadrant) (found : Option Pix) → AreCornersIn pixels merged
     → IfSome found (IsFirstDouble merged) → IfNone found (All (λ q. ¬ IsDouble q.column.sign) merged) → IsFirstTouch pixels found
@@ -134,17 +134,18 @@ pub corners_near : (rects : List Rect) (merged : List Quadrant) → All (IsRectW
 corners_near rects merged within are k d below =
     let q : Quadrant = get_or merged k d in
     let signed : sign_at (cover rects) (get_or merged k d).column.x (get_or merged k d).y ≢ pos 0 = λ none.
-        are.signed k d below (sym (sign_of merged k d are.ascending below) ∙ sym (are.signs (get_or merged k d).column.x (get_or merged k d).y) ∙ none) in
+    are.signed k d below (sym (sign_of merged k d are.ascending below) ∙ sym (are.signs (get_or merged k d).column.x (get_or merged k d).y) ∙ none) in
     let left_of : (x y : ℤ) → x <ℤ neg_ℤ (pos 1048576) → cover rects x y ≡ false = λ x y less.
-        off_unless (cover rects x y) (λ is. let inside = rects_within 1048576 rects x y within is in let left = inside.left in omega (arith, ints)) in
+    off_unless (cover rects x y) (λ is. let inside = rects_within 1048576 rects x y within is in let left = inside.left in omega (arith, ints)) in
     let below_of : (x y : ℤ) → y <ℤ neg_ℤ (pos 1048576) → cover rects x y ≡ false = λ x y less.
-        off_unless (cover rects x y) (λ is. let inside = rects_within 1048576 rects x y within is in let low = inside.low in omega (arith, ints)) in
-    let x : ℤ = (get_or merged k d).column.x in let y : ℤ = (get_or merged k d).y in
-    (by_lt_z x (neg_ℤ (pos 1048576))
-      (λ less. absurd (signed (no_corner (cover rects (x -ℤ pos 1) (y -ℤ pos 1)) (cover rects x (y -ℤ pos 1)) (cover rects (x -ℤ pos 1) y) (cover rects x y)
-      (left_of (x -ℤ pos 1) (y -ℤ pos 1) (omega (arith, ints))) (left_of x (y -ℤ pos 1) less) (left_of (x -ℤ pos 1) y (omega (arith, ints))) (left_of x y less))))
-      (λ most. most),
+    off_unless (cover rects x y) (λ is. let inside = rects_within 1048576 rects x y within is in let low = inside.low in omega (arith, ints)) in
+    let x : ℤ = (get_or merged k d).column.x in let y : ℤ = (get_or merged k d).y in (
+      by_lt_z x (neg_ℤ (pos 1048576))
+          (λ less. absurd (signed (no_corner (cover rects (x -ℤ pos 1) (y -ℤ pos 1)) (cover rects x (y -ℤ pos 1)) (cover rects (x -ℤ pos 1) y) (cover rects x y)
+          (left_of (x -ℤ pos 1) (y -ℤ pos 1) (omega (arith, ints))) (left_of x (y -ℤ pos 1) less) (left_of (x -ℤ pos 1) y (omega (arith, ints))) (left_of x y less))))
+          (λ most. most),
       by_lt_z y (neg_ℤ (pos 1048576))
-      (λ less. absurd (signed (no_corner (cover rects (x -ℤ pos 1) (y -ℤ pos 1)) (cover rects x (y -ℤ pos 1)) (cover rects (x -ℤ pos 1) y) (cover rects x y)
-      (below_of (x -ℤ pos 1) (y -ℤ pos 1) (omega (arith, ints))) (below_of x (y -ℤ pos 1) (omega (arith, ints))) (below_of (x -ℤ pos 1) y less) (below_of x y less))))
-      (λ most. most))
+          (λ less. absurd (signed (no_corner (cover rects (x -ℤ pos 1) (y -ℤ pos 1)) (cover rects x (y -ℤ pos 1)) (cover rects (x -ℤ pos 1) y) (cover rects x y)
+          (below_of (x -ℤ pos 1) (y -ℤ pos 1) (omega (arith, ints))) (below_of x (y -ℤ pos 1) (omega (arith, ints))) (below_of (x -ℤ pos 1) y less) (below_of x y less))))
+          (λ most. most),
+    )

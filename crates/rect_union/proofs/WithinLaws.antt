@@ -1,5 +1,5 @@
 -- Placed outlines cover pixels within their limit alone.
-use Rattle.std.proofs.Common.{◌≡◌, ◌≢◌, ◌⊎◌, inl, inr, ℕ, suc, ◌+◌, ◌<◌, ◌≤◌, ℤ, pos, neg_ℤ, ◌+ℤ◌, ◌-ℤ◌, ◌≤ℤ◌, ◌<ℤ◌, int_eq, int_le, unsigned_abs, Bool, true, false, not, ◌||◌, ◌&&◌, if◌then◌else◌, List, [], ◌∷◌, length, get_or, refl, sym, ◌∙◌, ap, subst, arith}
+use Rattle.std.proofs.Common.{◌≡◌, ◌≢◌, inl, inr, ℕ, suc, ◌<◌, ◌≤◌, ℤ, pos, neg_ℤ, ◌-ℤ◌, ◌≤ℤ◌, ◌<ℤ◌, int_eq, int_le, Bool, true, false, not, ◌||◌, ◌&&◌, if◌then◌else◌, List, [], ◌∷◌, length, get_or, refl, sym, ◌∙◌, ap, arith}
 use Rattle.std.specs.Prelude.{All}
 use Rattle.std.proofs.lemmas.Int.{ints, by_lt_z}
 use Rattle.std.proofs.lemmas.List.Folds.{list_any_at}
@@ -10,7 +10,7 @@ use Rattle.opc_base.specs.declared.outline.Outline.{Outline}
 use Rattle.opc_base.specs.declared.outline.Outline.TheVariants.{Polygon, Path}
 use Rattle.opc_base.specs.Plane.{IsRectWithin, cover, rect_cover}
 use Rattle.opc_base.specs.Canonical.{AreCanonical}
-use Rattle.opc_base.specs.Cover.{AreRectangles, IsPlaced, IsPolygon, crossings, crossings_from, last_from, outline_cover, step}
+use Rattle.opc_base.specs.Cover.{IsPlaced, IsPolygon, crossings, crossings_from, last_from, outline_cover, step}
 use Rattle.opc_base.specs.Target.{target}
 use Rattle.opc_base.specs.Corners.{quadrant_sum}
 use Rattle.opc_base.specs.Sums.{sum_each}
@@ -118,7 +118,7 @@ pub rects_in_limit : (limit : ℕ) (rects : List Rect) → AreCanonical rects �
 rects_in_limit limit rects canonical inside_limit k d below =
     let solid = canonical.solid k d below in let wide = solid.wide in let tall = solid.high in
     let covered : (x y : ℤ) → rect_cover (get_or rects k d) x y ≡ true → IsInLimit limit x y = λ x y is.
-        inside_limit x y (list_any_at (λ r. rect_cover r x y) rects k d below is) in
+    inside_limit x y (list_any_at (λ r. rect_cover r x y) rects k d below is) in
     let first : IsInLimit limit (get_or rects k d).x0 (get_or rects k d).y0 = covered (get_or rects k d).x0 (get_or rects k d).y0
     (inside (get_or rects k d) (get_or rects k d).x0 (get_or rects k d).y0 (omega (arith, ints)) wide (omega (arith, ints)) tall) in
     let last : IsInLimit limit ((get_or rects k d).x1 -ℤ pos 1) ((get_or rects k d).y1 -ℤ pos 1) = covered ((get_or rects k d).x1 -ℤ pos 1) ((get_or rects k d).y1 -ℤ pos 1)

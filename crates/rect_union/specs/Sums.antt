@@ -1,5 +1,5 @@
 -- Sums of integers, and which of them are not 0.
-use Rattle.std.specs.Prelude.{ℕ, zero, suc, ◌+◌, ℤ, pos, ◌+ℤ◌, Bool, false, not, ◌||◌, if◌then◌else◌, List, [], ◌∷◌}
+use Rattle.std.specs.Prelude.{ℕ, zero, suc, ◌+◌, ℤ, pos, Bool, false, not, ◌||◌, if◌then◌else◌}
 use Rattle.std.specs.Ordering.{int_eq}
 
 -- some f k below n is not 0

@@ -1,15 +1,10 @@
 -- The pixels that some outline covers.
-use Rattle.std.specs.Prelude.{◌≡◌, ℕ, zero, suc, ◌*◌, ◌≤◌, ℤ, pos, Bool, not, List, [], ◌∷◌, length, sum_by, All}
-use Rattle.std.specs.Ordering.{int_eq}
-use Rattle.std.specs.List.{list_any}
-use Rattle.opc_base.specs.declared.plane.Pix.{Pix}
+use Rattle.std.specs.Prelude.{◌≡◌, ℕ, zero, suc, ◌≤◌, ℤ, pos, List, [], ◌∷◌, length}
 use Rattle.opc_base.specs.declared.outline.Outline.{Outline}
 use Rattle.opc_base.specs.declared.outline.Outline.TheVariants.{Polygon, Path}
 use Rattle.rect_union.specs.declared.quadrants.Quadrant.{Quadrant}
-use Rattle.opc_base.specs.Canonical.{IsSolid}
-use Rattle.opc_base.specs.Cover.{IsRectilinear, crossings, last_from}
+use Rattle.opc_base.specs.Cover.{crossings}
 use Rattle.rect_union.specs.Outlines.{path_count}
-use Rattle.opc_base.specs.Plane.{cover}
 use Rattle.rect_union.specs.Quadrants.{HaveQuadrantOwnersBelow, column_total, quadrant_weight, row_total, winding}
 
 -- how often an outline covers a pixel

@@ -12,7 +12,6 @@ mod runs;
 mod stack;
 mod sweep;
 mod target;
-
 mod windings;
 
 pub use corners::region_of;

@@ -8,8 +8,8 @@ ghost use Rattle.rect_union.specs.Target.{AreQuadrantsOf, outline_count};
 ghost use Rattle.opc_base.specs.Cover.{IsPlaced};
 
 use crate::columns::Column;
-use opc_base::{Outline, Pix, Rect};
 use crate::quadrants::Quadrant;
+use opc_base::{Outline, Pix, Rect};
 use std::alloc::{AllocError, Global};
 
 /// The quadrants of all outlines, each outline's number being the owner.

@@ -140,11 +140,7 @@ fn settle(
 }
 
 /// Adds a quadrant of this sign at the point of another one, if the sign is not 0.
-fn push_signed(
-    merged: &mut Vec<Quadrant>,
-    quadrant: &Quadrant,
-    sign: i128,
-) -> Result<(), NoMemory>
+fn push_signed(merged: &mut Vec<Quadrant>, quadrant: &Quadrant, sign: i128) -> Result<(), NoMemory>
     ensures pushed { OnOk result (PushesSigned merged.old.items merged.new.items quadrant.now sign) }
 {
     if sign != 0 {

@@ -9,11 +9,11 @@ ghost use Rattle.rect_union.specs.Quadrants.{AreInRows, HaveQuadrantOwnersBelow,
 ghost use Rattle.rect_union.specs.Sweeps.{IsSweepAt, Raises};
 
 use crate::columns::{Column, runs_of};
-use opc_base::Rect;
 use crate::merge::merged;
 use crate::quadrants::Quadrant;
 use crate::stack::{Growing, add_slab};
 use crate::windings::Windings;
+use opc_base::Rect;
 use std::alloc::{AllocError, Global};
 
 /// The state of a sweep at a height: the columns of the row below it, and the rectangles so far.

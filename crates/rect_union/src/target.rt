@@ -6,8 +6,8 @@ ghost use Rattle.opc_base.specs.Plane.{IsRectWithin, cover};
 ghost use Rattle.opc_base.specs.Target.{HasMoreCornersThan, target};
 
 use crate::outlines::quadrants_of;
-use crate::rect_corners::count_corners;
 use crate::quadrants::sort_rows;
+use crate::rect_corners::count_corners;
 use crate::sweep::region_of_quadrants;
 use opc_base::{NoMemory, Placed, Rect, Region};
 use std::alloc::{AllocError, Global};

@@ -1,4 +1,4 @@
-use Rattle.std.proofs.Common.{ℕ, ◌<◌, length, get_or}
+use Rattle.std.proofs.Common.{ℕ, ◌<◌, get_or}
 use Rattle.rect_union.specs.declared.quadrants.Quadrant.{Quadrant}
 use Rattle.rect_union.specs.Touches.{IsDouble}
 use Rattle.rect_union.proofs.rect_corners.first_double.Given as goal

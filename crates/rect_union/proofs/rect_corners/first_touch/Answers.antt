@@ -1,4 +1,3 @@
-use Rattle.std.specs.Prelude.{◌≡◌}
 use Rattle.opc_base.specs.Plane.{cover}
 use Rattle.rect_union.proofs.TouchLaws.{corners_near, touch_found}
 use Rattle.rect_union.proofs.rect_corners.first_touch.Goals as goal
@@ -8,5 +7,7 @@ first_double-requires c = record { near = rw c.deref.ensures.value (corners_near
 
 pub returns : goal.returns
 returns c =
-    record { touch = touch_found (cover c.args.rects.now) c.in_ok-merged.merged.items c.first_double.result c.in_ok-merged.ensures.corners
-        (rw c.deref.ensures.value at c.first_double.ensures.found) (rw c.deref.ensures.value at c.first_double.ensures.none) }
+    record {
+      touch = touch_found (cover c.args.rects.now) c.in_ok-merged.merged.items c.first_double.result c.in_ok-merged.ensures.corners
+          (rw c.deref.ensures.value at c.first_double.ensures.found) (rw c.deref.ensures.value at c.first_double.ensures.none);
+    }

@@ -1,4 +1,4 @@
-use Rattle.std.proofs.Common.{◌≤◌, ◌<◌, ◌+ℤ◌, pos, length, get_or, SFits, to_z-of_z, refl, arith, rules}
+use Rattle.std.proofs.Common.{◌<◌, ◌+ℤ◌, pos, length, get_or, SFits, to_z-of_z, refl, arith, rules}
 use Rattle.std.specs.Int.{w128}
 use Rattle.std.proofs.lemmas.Int.{fits_signed_from_abs}
 use Rattle.std.proofs.Common.{◌^◌}

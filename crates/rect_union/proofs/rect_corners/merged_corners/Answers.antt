@@ -1,8 +1,5 @@
-use Rattle.std.proofs.Common.{◌≡◌, ◌∙◌, sym, ap, map, ℤ, List, length, subst, arith}
-use Rattle.rect_union.specs.CornerCount.{HasCornerCount}
-use Rattle.opc_base.specs.declared.plane.Corner.{Corner}
+use Rattle.std.proofs.Common.{◌∙◌, sym, arith}
 use Rattle.opc_base.specs.Plane.{cover}
-use Rattle.rect_union.specs.Corners.{corner_quadrant}
 use Rattle.rect_union.proofs.CornerLaws.{sorted_signs, sorted_weight}
 use Rattle.rect_union.proofs.MergingLaws.{corners_merged}
 use Rattle.rect_union.proofs.PointLaws.{sign_of_corners}
@@ -18,6 +15,8 @@ pub returns : goal.returns
 returns c =
     let merged = rw c.deref-2.ensures.value at c.in_ok-merged.ensures.merged in
     let sums = rw (sym c.deref.ensures.value) at c.in_ok-corners.ensures.sums in
-    record { corners = corners_merged (cover c.args.rects.now) c.sort_rows.new.quadrants.items c.in_ok-merged.merged.items merged
-        (λ x y. sign_of_corners (cover c.args.rects.now) c.deref.result.now (λ x y. sums x y ∙ count_is_cover c.args.rects.now c.requires.canonical x y) x y
-        ∙ sym (sorted_signs c.deref.result.now c.in_ok-quadrants.quadrants.items c.sort_rows.new.quadrants.items c.in_ok-quadrants.ensures.quadrants c.sort_rows.ensures.permutation x y)) }
+    record {
+      corners = corners_merged (cover c.args.rects.now) c.sort_rows.new.quadrants.items c.in_ok-merged.merged.items merged
+          (λ x y. sign_of_corners (cover c.args.rects.now) c.deref.result.now (λ x y. sums x y ∙ count_is_cover c.args.rects.now c.requires.canonical x y) x y
+          ∙ sym (sorted_signs c.deref.result.now c.in_ok-quadrants.quadrants.items c.sort_rows.new.quadrants.items c.in_ok-quadrants.ensures.quadrants c.sort_rows.ensures.permutation x y));
+    }

@@ -1,4 +1,4 @@
-use Rattle.std.proofs.Common.{◌≡◌, inl, inr, pos, ◌-ℤ◌, SFits, w8, w32, to_z-of_z, arith, rules}
+use Rattle.std.proofs.Common.{inl, inr, pos, ◌-ℤ◌, SFits, w8, w32, to_z-of_z, arith, rules}
 use Rattle.std.proofs.Math.Facts.{sfits_lit}
 use Rattle.std.proofs.lemmas.Int.{ints}
 use Rattle.rect_union.proofs.RectCornerLaws.{pushes_rect, pushes_within}

@@ -1,4 +1,4 @@
-use Rattle.std.proofs.Common.{◌≡◌, ◌∙◌, ◌<◌, ◌≤◌, List, length, take, take_all, pos, ap, sym, int_le, ◌&&◌, if◌then◌else◌, arith}
+use Rattle.std.proofs.Common.{◌∙◌, ◌<◌, ◌≤◌, List, length, take_all, pos, ap, sym, int_le, ◌&&◌, if◌then◌else◌, arith}
 use Rattle.std.proofs.lemmas.Int.{ints}
 use Rattle.opc_base.specs.declared.plane.Corner.{Corner}
 use Rattle.opc_base.specs.declared.plane.Rect.{Rect}
@@ -21,6 +21,8 @@ loop-rect-preserved c x y =
     omega (arith, ints)
 
 pub returns : goal.returns
-returns c = record { sums = λ x y.
-    let all : length c.args.rects.now ≤ c.loop-rect.rect-index = omega arith in
-    c.loop-rect.invariant x y ∙ ap (λ (l : List Rect). path_count l x y) (take_all c.loop-rect.rect-index c.args.rects.now all) }
+returns c = record {
+  sums = λ x y.
+      let all : length c.args.rects.now ≤ c.loop-rect.rect-index = omega arith in
+      c.loop-rect.invariant x y ∙ ap (λ (l : List Rect). path_count l x y) (take_all c.loop-rect.rect-index c.args.rects.now all);
+}

@@ -1,6 +1,6 @@
-use Rattle.std.proofs.Common.{◌≡◌, ◌∙◌, ◌≤◌, length, arith}
+use Rattle.std.proofs.Common.{◌≤◌, length, arith}
 use Rattle.opc_base.specs.Target.{target}
-use Rattle.rect_union.proofs.LowerSides.{few_rects, more_corners, no_more_corners}
+use Rattle.rect_union.proofs.LowerSides.{few_rects, no_more_corners}
 use Rattle.rect_union.proofs.SetLaws.{canonical_for, count_for}
 use Rattle.rect_union.proofs.target.union.Goals as goal
 
