@@ -1,0 +1,17 @@
+//! Worked examples of the whole program, as tests: `opc_run` over a host in memory.
+//!
+//! `files` makes layouts and kernel files, `hosts` what a host holds of them, and `runs` runs a line of words over them
+//! and compares the status and what was said. Each other module has the rows of one subject, with numbers that were
+//! found by hand.
+#![tactic(auto)]
+
+pub mod files;
+pub mod hosts;
+#[cfg(test)]
+mod order_rows;
+#[cfg(test)]
+mod probe_rows;
+#[cfg(test)]
+mod runs;
+#[cfg(test)]
+mod word_rows;
