@@ -1,8 +1,9 @@
 -- What the two clamps of a wish leave.
-use Rattle.std.proofs.Common.{◌≡◌, ℤ, pos, neg_ℤ, ◌-ℤ◌, ◌+ℤ◌, ◌≤ℤ◌, unsigned_abs, refl, arith}
+use Rattle.std.proofs.Common.{◌≡◌, ℕ, ◌+◌, ◌-◌, ◌*◌, ◌<◌, ℤ, pos, neg_ℤ, ◌-ℤ◌, ◌+ℤ◌, ◌≤ℤ◌, unsigned_abs, refl, arith}
 use Rattle.std.proofs.lemmas.Int.{ints, clamps}
 use Rattle.std.specs.Int.{int_max, int_min}
-use Rattle.mover.specs.Wish.{clamped}
+use Rattle.std.proofs.Math.Nat.{div-mul-le_self, lt-div-mul-add}
+use Rattle.mover.specs.Wish.{clamped, nearest, IsNearest}
 
 -- equal bounds and numbers have equal clamps
 pub clamped_along : (low' high' n' low high n : ℤ) → low' ≡ low → high' ≡ high → n' ≡ n → int_max low' (int_min n' high') ≡ clamped low high n
@@ -25,3 +26,11 @@ clamped_within n most sign = omega (arith, ints, clamps)
 pub offset_after : (low high offset n : ℤ) → low ≤ℤ offset → offset ≤ℤ high
     → (low ≤ℤ (offset +ℤ clamped (low -ℤ offset) (high -ℤ offset) n)) × ((offset +ℤ clamped (low -ℤ offset) (high -ℤ offset) n) ≤ℤ high)
 offset_after low high offset n down up = (omega (arith, ints, clamps), omega (arith, ints, clamps))
+
+-- the quotient with halves toward zero
+pub nearest_is : (upper lower : ℕ) → 0 < lower → IsNearest upper lower (nearest upper lower)
+nearest_is upper lower some =
+    let low = div-mul-le_self (2 * upper + lower - 1) (2 * lower) in
+    let some_parts : 0 < 2 * lower = omega arith in
+    let high = lt-div-mul-add {a = 2 * upper + lower - 1} {b = 2 * lower} some_parts in
+    record { above = omega (arith, low, high); below = omega (arith, low, high) }

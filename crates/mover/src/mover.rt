@@ -1,6 +1,6 @@
 //! The wish of a fragment.
 ghost use Rattle.std.specs.Prelude.{◌≡◌, ◌+◌, ◌*◌, ◌≤◌, ◌<ℤ◌, ◌≤ℤ◌, ◌+ℤ◌, pos, unsigned_abs};
-ghost use Rattle.mover.specs.Wish.{IsOffset, wanted, wanted_size, wish_of};
+ghost use Rattle.mover.specs.Wish.{IsNearest, IsOffset, gained, parts, wanted, wanted_size, wish_of};
 
 use opc_base::MoveRules;
 
@@ -11,6 +11,7 @@ pub fn wish(error: i32, offset: i32, rules: &MoveRules) -> i32
     requires error { unsigned_abs error ≤ 256 }
     requires offset { IsOffset rules.now offset }
     ensures wish { result ≡ wish_of error offset rules.now }
+    ensures nearest { IsNearest (gained error rules.now) (parts rules.now) (wanted_size error rules.now) }
     ensures range { IsOffset rules.now (offset +ℤ result) }
     ensures step { pos (unsigned_abs result) ≤ℤ rules.now.max_step }
     ensures inward { pos 0 ≤ℤ error → result ≤ℤ pos 0 }

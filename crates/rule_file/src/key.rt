@@ -99,7 +99,7 @@ impl Key {
         self.row().0
     }
 
-    pub fn kind(&self) -> Kind
+    pub(crate) fn kind(&self) -> Kind
         ensures { result ≡ kind_of self.now }
     {
         self.row().1

@@ -113,6 +113,7 @@ fn each_number_has_its_range(rt: HostRuntime) -> Result<(), AllocError> {
 #[test]
 fn names_and_spellings(rt: HostRuntime) -> Result<(), AllocError> {
     let a = rt.alloc();
+    assert_eq!(rt; Key::CornerOut.name(), "corner_out");
     let top = Key::Top;
     check(&rt, a, top, "", Some(RuleFault::MissingKey { key: top }))?;
     check(
@@ -153,6 +154,13 @@ fn names_and_spellings(rt: HostRuntime) -> Result<(), AllocError> {
         &rt,
         a,
         grid,
+        "out.name = 1\ngrid = 0",
+        Some(RuleFault::Unknown),
+    )?;
+    check(
+        &rt,
+        a,
+        grid,
         "grid = 1.0",
         Some(RuleFault::WrongType { key: grid }),
     )?;
@@ -170,6 +178,10 @@ fn rules_hold_the_values(rt: HostRuntime) -> Result<(), Fail> {
     assert_eq!(rt; rules.mover.max_in, 8);
     assert_eq!(rt; rules.mask.max_out, 16);
     assert_eq!(rt; rules.run.rounds, 4);
+    let brighter = rules.with_threshold(100)?;
+    assert_eq!(rt; brighter.site.threshold, 100);
+    assert_eq!(rt; brighter.site.samples, 2);
+    assert!(rt; brighter.out.name.as_slice() == b"MASK".as_slice());
     Ok(())
 }
 

@@ -1,8 +1,8 @@
 use Rattle.std.proofs.Common.{◌≡◌, ◌≤ℤ◌, ◌<ℤ◌, ◌-ℤ◌, ◌+ℤ◌, ℤ, pos, neg_ℤ, unsigned_abs, w32, to_z, of_z, sym, subst, ap, ◌∙◌, arith, ◌<◌}
 use lib.Signed.{mag}
 use Rattle.std.proofs.lemmas.Int.{ints}
-use Rattle.mover.specs.Wish.{IsOffset, clamped, wanted, wish_of}
-use Rattle.mover.proofs.WishLaws.{clamped_along, clamped_size, clamped_inward, clamped_outward, clamped_within, offset_after}
+use Rattle.mover.specs.Wish.{IsOffset, gained, parts, clamped, wanted, wish_of}
+use Rattle.mover.proofs.WishLaws.{clamped_along, clamped_size, clamped_inward, clamped_outward, clamped_within, offset_after, nearest_is}
 use Rattle.mover.proofs.mover.wish.Goals as goal
 
 pub clamp-requires : goal.clamp-requires
@@ -75,3 +75,6 @@ returns-clause-outward c sign =
     computed c.clamp.result c.clamp.type_inv ∙ c.clamp.ensures.value
     ∙ clamped_along _ _ _ (neg_ℤ c.args.rules.now.max_in -ℤ c.args.offset) (c.args.rules.now.max_out -ℤ c.args.offset) _ (omega (arith, ints, c.args.rules.now.max_in_in_range)) (omega (arith, ints, c.args.rules.now.max_out_in_range)) step in
     subst (λ n. pos 0 ≤ℤ n) (sym wish) (clamped_outward (neg_ℤ c.args.rules.now.max_in -ℤ c.args.offset) (c.args.rules.now.max_out -ℤ c.args.offset) (clamped (neg_ℤ c.args.rules.now.max_step) c.args.rules.now.max_step (wanted c.args.error c.args.rules.now)) (omega (arith, ints, c.requires.offset)) (omega (arith, ints, c.requires.offset)) (clamped_outward (neg_ℤ c.args.rules.now.max_step) c.args.rules.now.max_step (wanted c.args.error c.args.rules.now) (omega (arith, ints, c.args.rules.now.max_step_in_range)) (omega (arith, ints, c.args.rules.now.max_step_in_range)) (subst (λ n. pos 0 ≤ℤ n) want (c.wanted.ensures.outward (subst (λ e. e <ℤ pos 0) (sym (computed c.args.error c.ranges.error.sfits)) sign)))))
+
+pub returns-clause-nearest : goal.returns-clause-nearest
+returns-clause-nearest c = nearest_is (gained c.args.error c.args.rules.now) (parts c.args.rules.now) (omega (arith, ints, c.args.rules.now.gain_den_in_range))
