@@ -8,3 +8,4 @@ pub mod Closing
 pub mod Gathering
 pub mod Drafting
 pub mod Reading
+pub mod ReadAnswers

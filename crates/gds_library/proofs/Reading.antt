@@ -1,6 +1,6 @@
 -- What the reader's loop keeps, and where it leads.
-use Rattle.std.proofs.Common.{◌≡◌, ◌≢◌, ℕ, ◌≤◌, ◌==◌, ◌||◌, Bool, true, false, cond, refl, List, [], ◌∷◌, ◌++◌, length, Some, None, inl, inr, ap, sym, ◌∙◌, subst, append_assoc, arith}
-use Rattle.std.proofs.lemmas.Bool.{eq-eqb, ne_eqb}
+use Rattle.std.proofs.Common.{◌≡◌, ◌≢◌, ℕ, ◌≤◌, ◌==◌, ◌&&◌, ◌||◌, Bool, true, false, cond, refl, List, [], ◌∷◌, ◌++◌, length, Some, None, inl, inr, ap, sym, ◌∙◌, subst, append_assoc, arith}
+use Rattle.std.proofs.lemmas.Bool.{eq-eqb, ne_eqb, cases_Bool}
 use Rattle.std.proofs.lemmas.List.{append-nil}
 use Rattle.gds_records.specs.Records.{StreamRecord, record_at, records_from, end_of, stop_after, ENDLIB}
 use Rattle.gds_records.proofs.RecordsLemmas.{record_at-end, records_from-some, records_from-none}
@@ -13,13 +13,20 @@ use Rattle.gds_model.specs.declared.elements.Structure.{Structure}
 use Rattle.gds_model.specs.Grammar.{Tree, records_of}
 use Rattle.gds_model.specs.Library.{StreamLibrary, IsLibraryOf, IsLayout, library_of, names as structure_names}
 use Rattle.gds_model.proofs.Layouts.{library_names, library_is_layout}
-use Rattle.gds_model.specs.Faults.{IsFine, FaultAt, AllFine, FirstFault, has_end, AllZeroFrom, IsTrailingFrom, IsStopFault, IsFaultOf, IsFault, HasNoFault, names_of}
+use Rattle.gds_model.specs.Faults.{IsFine, FaultAt, AllFine, FirstFault, has_end, AllZeroFrom, IsTrailingFrom, IsStopFault, IsFaultOf, IsFault, HasNoFault, names_of, duplicate}
+use Rattle.gds_model.specs.RecordKind.{code_of}
+use Rattle.gds_model.specs.declared.record_kind.RecordKind.TheVariants.{StrName}
+use Rattle.gds_model.specs.Names.{name_of}
+use Rattle.gds_model.specs.Body.{Body, fits, is_one_of}
+use Rattle.gds_model.specs.Body as body_forms
+use Rattle.gds_library.specs.Texts.{has_name}
+use Rattle.gds_library.specs.OpenElement.{has_size}
 use Rattle.gds_model.specs.StreamFile.{library}
 use Rattle.gds_library.specs.declared.draft.Draft.{Draft}
 use Rattle.gds_library.specs.Progress.{Follows, Passes, Advances, names_read}
 use Rattle.gds_library.specs.Gathered.{Gathered, nothing_gathered, with_record, with_records}
 use Rattle.gds_library.specs.Draft.{HoldsGathered}
-use Rattle.gds_library.proofs.Accepting.{follows}
+use Rattle.gds_library.proofs.Accepting.{duplicate_is, follows}
 use Rattle.gds_library.proofs.Drafting.{with_records-append, library_taken}
 
 AllFine-snoc : (before rs : List StreamRecord) (r : StreamRecord) → AllFine before rs → IsFine (before ++ rs) r → AllFine before (rs ++ r ∷ [])
@@ -184,3 +191,16 @@ module _ (bytes : List ℕ) (at : ℕ) (names : List (List ℕ)) (head : Head) (
 
   pub names_there : names ≡ structure_names structures
   names_there = end.names_are ∙ library_names end.tree ∙ ap structure_names (sym end.structures_are)
+
+-- what a record that passes lets the reader do
+pub has_size-fits : (b : Body) (element : ℕ) (body : List ℕ) → fits b element body ≡ true → has_size b body ≡ true
+has_size-fits (body_forms.bytes n) element body fit = fit
+has_size-fits other element body fit = refl
+
+pub another_name : (p : Progress) (before : List StreamRecord) (r : StreamRecord) (kind : RecordKind) (state : State) → Follows p before
+    → Passes before r p kind state → (is_one_of (StrName ∷ []) (code_of kind) && has_name (names_read p) (name_of r.body)) ≡ false
+another_name p before r kind state follows pass =
+    elim (cases_Bool (is_one_of (StrName ∷ []) (code_of kind) && has_name (names_read p) (name_of r.body))) [
+      | inl again ↦ absurd (pass.fine duplicate (duplicate_is p before r follows kind pass.kind_is again))
+      | inr new ↦ new
+    ]

@@ -78,7 +78,9 @@ impl Library {
         ensures found { IsSome result ↔ Contains (names self.now.structures) name.now }
         ensures layout { IsLayout self.now }
     {
-        let i = self.names.get_index_of(name.as_slice())?;
-        Some(i as u32)
+        match self.names.get_index_of(name.as_slice()) {
+            Some(i) => Some(i as u32),
+            None => None,
+        }
     }
 }

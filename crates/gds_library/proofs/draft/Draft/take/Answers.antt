@@ -2,6 +2,7 @@ use Rattle.std.proofs.Common.{◌≡◌, ◌∷◌, [], ◌++◌, OnOk, refl, sy
 use Rattle.gds_records.specs.Records.{StreamRecord}
 use Rattle.gds_model.specs.declared.record_kind.RecordKind.{RecordKind}
 use Rattle.gds_model.specs.RecordKind.{code_of}
+use Rattle.gds_library.specs.declared.draft.Draft.{Draft}
 use Rattle.gds_library.specs.Gathered.{Gathered, with_record}
 use Rattle.gds_library.specs.Draft.{HoldsGathered}
 use Rattle.gds_library.proofs.Closing.{Holds-more, Holds-end}
@@ -11,7 +12,9 @@ use Rattle.gds_library.proofs.draft.Draft.take.Goals as goal
 pub returns-then-is_element : goal.returns-then-is_element
 returns-then-is_element c g held =
     let r : StreamRecord = record { offset = c.args.record.now.offset; code = code_of c.args.kind; body = c.args.record.now.body.now } in
-    let P : Gathered → Type 0 = λ x. HoldsGathered _ x in
+    let old = c.args.self.now in
+    let new : Draft = record { head = old.head; structures = old.structures; name = old.name; elements = old.elements; element = c.begin-self.result } in
+    let P : Gathered → Type 0 = λ x. HoldsGathered new x in
     subst P (sym (with_record-begin g r (c.is_element.ensures ∙ c.if-is_element.true)))
     (record { head = held.head; structures = held.structures; name = held.name; elements = held.elements; element = c.begin-self.ensures r.body })
 
@@ -28,7 +31,9 @@ returns-in_default c g held =
     let r : StreamRecord = record { offset = c.args.record.now.offset; code = code_of c.args.kind; body = c.args.record.now.body.now } in
     let other = c.is_element.ensures ∙ c.if-is_element.false in
     let d = c.in_default in
-    let P : Gathered → Type 0 = λ x. HoldsGathered _ x in
+    let old = c.args.self.now in
+    let new : Draft = record { head = old.head; structures = old.structures; name = old.name; elements = old.elements; element = c.take.new.self } in
+    let P : Gathered → Type 0 = λ x. HoldsGathered new x in
     subst P
     (sym
     (with_record-detail g r c.args.kind refl
