@@ -1,2 +1,4 @@
 pub mod PlacedListLaws
 pub mod PointLaws
+pub mod OneFault
+pub mod Layouts

@@ -1,11 +1,10 @@
 -- The bodies that a record may have.
 use Rattle.std.specs.Prelude.{ℕ, ◌%◌, ◌==◌, ◌&&◌, nat_le, Bool, true, Option, Some, None, List, [], ◌∷◌, length, if◌then◌else◌}
 use Rattle.std.specs.List.{list_any}
-use Rattle.std.specs.Prelude.{not}
 use Rattle.gds_model.specs.declared.record_kind.RecordKind.{RecordKind}
 use Rattle.gds_model.specs.declared.record_kind.RecordKind.TheVariants.{Header, BgnLib, LibName, Units, EndLib, BgnStr, StrName, EndStr, Boundary, Path, Sref, Aref, Text, Layer, Datatype, Width, Xy, EndEl, Sname, ColRow, Node, TextType, Presentation, TextString, Strans, Mag, Angle, RefLibs, Fonts, PathType, Generations, AttrTable, ElFlags, NodeType, PropAttr, PropValue, Box, BoxType, Plex, BgnExtn, EndExtn, StrClass, Format, Mask, EndMasks, LibDirSize, SrfName, LibSecur}
 use Rattle.gds_model.specs.RecordKind.{code_of}
-use Rattle.gds_model.specs.Names.{is_all_zero}
+use Rattle.gds_model.specs.Names.{has_nonzero}
 
 -- any bytes, so many bytes, a name, or the points of an element
 pub data Body : Type 0 where
@@ -68,7 +67,7 @@ body_of_kind LibSecur = any
 abbrev pub fits : Body → ℕ → List ℕ → Bool
 fits any element body = true
 fits (bytes n) element body = length body == n
-fits name element body = not (is_all_zero body)
+fits name element body = has_nonzero body
 fits points element body =
     if element == code_of Sref then length body == 8
     else if element == code_of Aref then length body == 24

@@ -1,4 +1,4 @@
--- The elements of a structure, by their records: the first record says what an element is, the others are looked up by their kind.
+-- The elements of a structure: the first record says what an element is, and each number or text is looked up by the kind of its record.
 use Rattle.std.specs.Prelude.{ℕ, ℤ, ◌/◌, ◌==◌, nat_le, Option, Some, None, List, [], ◌∷◌, length, map, fold, slice_index, if◌then◌else◌}
 use Rattle.std.specs.List.{range_with_len}
 use Rattle.std.specs.Option.{option_map, unwrap_or}
@@ -72,9 +72,9 @@ reference_of offset rs = record {
 abbrev pub elements_in : List StreamRecord → List Element
 elements_in [] = []
 elements_in (r ∷ rs) =
-    if r.code == code_of kind.Boundary then element.Shape (shape_of r.offset shape_kind.Boundary kind.Datatype rs) ∷ []
-    else if r.code == code_of kind.Path then element.Shape (shape_of r.offset (path_kind rs) kind.Datatype rs) ∷ []
-    else if r.code == code_of kind.Box then element.Shape (shape_of r.offset shape_kind.Box kind.BoxType rs) ∷ []
-    else if r.code == code_of kind.Sref then element.Reference (reference_of r.offset rs) ∷ []
-    else if r.code == code_of kind.Aref then element.Reference (reference_of r.offset rs) ∷ []
+    if r.code == code_of kind.Boundary then element.Shape (shape_of r.offset shape_kind.Boundary kind.Datatype (r ∷ rs)) ∷ []
+    else if r.code == code_of kind.Path then element.Shape (shape_of r.offset (path_kind (r ∷ rs)) kind.Datatype (r ∷ rs)) ∷ []
+    else if r.code == code_of kind.Box then element.Shape (shape_of r.offset shape_kind.Box kind.BoxType (r ∷ rs)) ∷ []
+    else if r.code == code_of kind.Sref then element.Reference (reference_of r.offset (r ∷ rs)) ∷ []
+    else if r.code == code_of kind.Aref then element.Reference (reference_of r.offset (r ∷ rs)) ∷ []
     else []

@@ -1,10 +1,11 @@
 -- The name in a body: the body without its trailing zero bytes.
-use Rattle.std.specs.Prelude.{ℕ, ◌==◌, ◌&&◌, Bool, true, List, [], ◌∷◌, if◌then◌else◌}
+use Rattle.std.specs.Prelude.{ℕ, ◌==◌, not, Bool, List, [], ◌∷◌, if◌then◌else◌}
+use Rattle.std.specs.List.{list_any}
 
-abbrev pub is_all_zero : List ℕ → Bool
-is_all_zero [] = true
-is_all_zero (byte ∷ bytes) = (byte == 0) && is_all_zero bytes
+-- some byte isn't zero
+abbrev pub has_nonzero : List ℕ → Bool
+has_nonzero bytes = list_any (λ byte. not (byte == 0)) bytes
 
 abbrev pub name_of : List ℕ → List ℕ
 name_of [] = []
-name_of (byte ∷ bytes) = if is_all_zero (byte ∷ bytes) then [] else byte ∷ name_of bytes
+name_of (byte ∷ bytes) = if has_nonzero (byte ∷ bytes) then byte ∷ name_of bytes else []

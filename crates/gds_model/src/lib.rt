@@ -8,6 +8,7 @@
 //!   of a parse tree; a leaf holds the offset and the body of its record;
 //! - `Names`: the name in a body;
 //! - `Faults`: what may be wrong at a record, and the first fault of a file in file order;
+//! - `Elements`, `Library`: the library that a sentence describes.
 //! - `Elements`, `Library`: the library that a sentence describes;
 //! - `Reach`: which structures the references of a library reach;
 //! - `Placement`, `PlacedList`: where references place points, and the list of the shapes that a structure places;
@@ -26,8 +27,8 @@
 
 mod elements;
 mod layout_fault;
-mod place_fault;
 mod points;
+mod place_fault;
 mod position;
 mod record_kind;
 mod reference;
@@ -35,8 +36,8 @@ mod shape;
 
 pub use elements::{Element, Elements, Structure};
 pub use layout_fault::LayoutFault;
-pub use place_fault::PlaceFault;
 pub use points::Points;
+pub use place_fault::PlaceFault;
 pub use position::{Direction, DoubledRect, PathForm, Position};
 pub use record_kind::RecordKind;
 pub use reference::{Grid, Reference};

@@ -3,3 +3,9 @@ pub mod CanonicalLaws
 pub mod FileEntries
 pub mod SumLaws
 pub mod OpticsLaws
+pub mod BlockLaws
+pub mod ClampLaws
+pub mod ChangeLaws
+pub mod CornerLaws
+pub mod LaneLaws
+pub mod ProductLaws

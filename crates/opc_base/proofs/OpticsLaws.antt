@@ -1,7 +1,8 @@
 -- Entries of kernels, what a mask lets through, and how far amplitudes reach.
-use Rattle.std.proofs.Common.{◌≡◌, ℕ, ◌+◌, ◌*◌, ◌≤◌, ℤ, pos, ◌+ℤ◌, ◌-ℤ◌, ◌*ℤ◌, unsigned_abs, List, Option, Some, None, slice_get, Bool, if◌then◌else◌, All, length, refl, subst, arith, ⊎_elim, mul-le-mul, true, false, Contains, sum_by}
+use Rattle.std.proofs.Common.{◌≡◌, ℕ, ◌+◌, ◌*◌, ◌≤◌, ℤ, pos, ◌+ℤ◌, ◌-ℤ◌, ◌*ℤ◌, unsigned_abs, List, Option, Some, None, slice_get, Bool, if◌then◌else◌, All, length, refl, subst, arith, ⊎_elim, mul-le-mul, true, false, Contains, sum_by, ap, ap₂, sym, get_or, ◌<◌}
 use Rattle.std.proofs.lemmas.Int.{ints, unsigned_abs-mul}
-use Rattle.std.proofs.lemmas.Option.{get_or_from_slice_get, slice_get_within}
+use Rattle.std.proofs.lemmas.Option.{get_or_from_slice_get, slice_get-get_or, slice_get_within}
+use Rattle.opc_base.specs.Blocks.{place_at}
 use Rattle.opc_base.specs.Optics.{AreKernelsWithin, IsEntryWithin, IsKernelWithin, KeepsBounds, KeepsOneTransmission, KeepsTwoTransmissions, entry_at, entry_or_nothing, nothing, passes, place_of, product_im, product_re}
 use Rattle.opc_base.specs.Plane.{PixelSet}
 use Rattle.opc_base.specs.declared.kernels.Entry.{Entry}
@@ -25,32 +26,32 @@ passes-within set pixels x y most covered uncovered = either (pixels x y) set.co
     either : (b : Bool) (s t : Entry) → IsEntryWithin most s → IsEntryWithin most t → IsEntryWithin most (if b then s else t)
     either b s t small_s small_t = grind arith
 
--- both parts of the product of an entry and a transmission are at most 2048 from 0
-abbrev pub AreSmall : Entry → Entry → Type 0
-AreSmall k t = (unsigned_abs (product_re k t) ≤ 2048) × (unsigned_abs (product_im k t) ≤ 2048)
+-- both parts of the product of an entry and a transmission are at most this far from 0
+abbrev pub AreSmall : ℕ → Entry → Entry → Type 0
+AreSmall most k t = (unsigned_abs (product_re k t) ≤ most) × (unsigned_abs (product_im k t) ≤ most)
 
 -- ---- products of an entry and a transmission
 product-small : (a b : ℤ) (m n : ℕ) → unsigned_abs a ≤ m → unsigned_abs b ≤ n → unsigned_abs (a *ℤ b) ≤ m * n
 product-small a b m n small_a small_b = rw (unsigned_abs-mul a b) (mul-le-mul small_a small_b)
 
 -- both parts of a product are small
-product-two : (k t : Entry) → IsEntryWithin 128 k → IsEntryWithin 8 t → AreSmall k t
-product-two k t small_k small_t = (
-  difference (k.re *ℤ t.re) (k.im *ℤ t.im) (product-small k.re t.re 128 8 small_k.0 small_t.0) (product-small k.im t.im 128 8 small_k.1 small_t.1),
-  sum (k.re *ℤ t.im) (k.im *ℤ t.re) (product-small k.re t.im 128 8 small_k.0 small_t.1) (product-small k.im t.re 128 8 small_k.1 small_t.0),
+pub product-within : (k t : Entry) (m n : ℕ) → IsEntryWithin m k → IsEntryWithin n t → AreSmall (2 * (m * n)) k t
+product-within k t m n small_k small_t = (
+  difference (k.re *ℤ t.re) (k.im *ℤ t.im) (product-small k.re t.re m n small_k.0 small_t.0) (product-small k.im t.im m n small_k.1 small_t.1),
+  sum (k.re *ℤ t.im) (k.im *ℤ t.re) (product-small k.re t.im m n small_k.0 small_t.1) (product-small k.im t.re m n small_k.1 small_t.0),
 )
   where
-    difference : (a b : ℤ) → unsigned_abs a ≤ 128 * 8 → unsigned_abs b ≤ 128 * 8 → unsigned_abs (a -ℤ b) ≤ 2048
+    difference : (a b : ℤ) → unsigned_abs a ≤ m * n → unsigned_abs b ≤ m * n → unsigned_abs (a -ℤ b) ≤ 2 * (m * n)
     difference a b small_a small_b = omega (arith, ints)
 
-    sum : (a b : ℤ) → unsigned_abs a ≤ 128 * 8 → unsigned_abs b ≤ 128 * 8 → unsigned_abs (a +ℤ b) ≤ 2048
+    sum : (a b : ℤ) → unsigned_abs a ≤ m * n → unsigned_abs b ≤ m * n → unsigned_abs (a +ℤ b) ≤ 2 * (m * n)
     sum a b small_a small_b = omega (arith, ints)
 
 -- a product with one or with nothing is as small as the entry
-product-one : (k t : Entry) → IsEntryWithin 2048 k → t ≡ record { re = pos 1; im = pos 0 } → AreSmall k t
+pub product-one : (k t : Entry) → IsEntryWithin 2048 k → t ≡ record { re = pos 1; im = pos 0 } → AreSmall 2048 k t
 product-one k t small is = rw is (omega (arith, ints, small.0, small.1), omega (arith, ints, small.0, small.1))
 
-product-nothing : (k t : Entry) → t ≡ nothing → AreSmall k t
+pub product-nothing : (k t : Entry) → t ≡ nothing → AreSmall 2048 k t
 product-nothing k t is = rw is (omega (arith, ints), omega (arith, ints))
 
 -- ---- kernel sets that keep the bounds of a kernel file
@@ -63,6 +64,12 @@ weights_within set bounds = ⊎_elim (λ one. one.kernels.weights) (λ two. two.
 kernel_within : (set : KernelSet) (most : ℕ) (kernel : Kernel) → AreKernelsWithin most set → Contains set.kernels kernel → IsKernelWithin set.reach most kernel
 kernel_within set most kernel all (i, within, is) = subst (IsKernelWithin set.reach most) is (all.kernels_within i kernel within)
 
+-- each entry of a kernel of the set is small
+pub entry_of_kernel-within : (set : KernelSet) (most : ℕ) (kernel : Kernel) (u v : ℤ) → AreKernelsWithin most set → Contains set.kernels kernel →
+    IsEntryWithin most (entry_at set.reach kernel.entries u v)
+entry_of_kernel-within set most kernel u v all among =
+    entry_at-within set.reach kernel.entries most u v (kernel_within set most kernel all among).entries_within
+
 pub rows_within : (set : KernelSet) (kernel : Kernel) → KeepsBounds set → Contains set.kernels kernel →
     length kernel.entries ≡ (2 * set.reach + 1) * (2 * set.reach + 1)
 rows_within set kernel bounds among =
@@ -70,20 +77,32 @@ rows_within set kernel bounds among =
 
 -- what a place of the kernel gives is at most 2048 from 0
 pub product_within : (set : KernelSet) (kernel : Kernel) (pixels : PixelSet) (u v x y : ℤ) → KeepsBounds set → Contains set.kernels kernel →
-    AreSmall (entry_at set.reach kernel.entries u v) (passes set pixels x y)
+    AreSmall 2048 (entry_at set.reach kernel.entries u v) (passes set pixels x y)
 product_within set kernel pixels u v x y bounds among = ⊎_elim one two bounds
   where
-    one : KeepsOneTransmission set → AreSmall (entry_at set.reach kernel.entries u v) (passes set pixels x y)
+    one : KeepsOneTransmission set → AreSmall 2048 (entry_at set.reach kernel.entries u v) (passes set pixels x y)
     one keeps = either (pixels x y) set.covered set.uncovered
         (product-one (entry_at set.reach kernel.entries u v) set.covered (entry_at-within set.reach kernel.entries 2048 u v (kernel_within set 2048 kernel keeps.kernels among).entries_within) keeps.covered)
         (product-nothing (entry_at set.reach kernel.entries u v) set.uncovered keeps.uncovered)
       where
-        either : (b : Bool) (s t : Entry) → AreSmall (entry_at set.reach kernel.entries u v) s → AreSmall (entry_at set.reach kernel.entries u v) t →
-            AreSmall (entry_at set.reach kernel.entries u v) (if b then s else t)
+        either : (b : Bool) (s t : Entry) → AreSmall 2048 (entry_at set.reach kernel.entries u v) s → AreSmall 2048 (entry_at set.reach kernel.entries u v) t →
+            AreSmall 2048 (entry_at set.reach kernel.entries u v) (if b then s else t)
         either true s t small_s small_t = small_s
         either false s t small_s small_t = small_t
 
-    two : KeepsTwoTransmissions set → AreSmall (entry_at set.reach kernel.entries u v) (passes set pixels x y)
-    two keeps = product-two (entry_at set.reach kernel.entries u v) (passes set pixels x y)
+    two : KeepsTwoTransmissions set → AreSmall 2048 (entry_at set.reach kernel.entries u v) (passes set pixels x y)
+    two keeps = product-within (entry_at set.reach kernel.entries u v) (passes set pixels x y) 128 8
         (entry_at-within set.reach kernel.entries 128 u v (kernel_within set 128 kernel keeps.kernels among).entries_within)
         (passes-within set pixels x y 8 keeps.covered keeps.uncovered)
+
+-- an entry by its row and column, counted from 0
+pub entry_at_place : (r : ℕ) (entries : List Entry) (column row : ℕ) → row * (2 * r + 1) + column < length entries →
+    get_or entries (row * (2 * r + 1) + column) nothing ≡ entry_at r entries (place_at r column) (place_at r row)
+entry_at_place r entries column row within =
+    sym (rw place (ap entry_or_nothing (slice_get-get_or entries (row * (2 * r + 1) + column) nothing within)))
+  where
+    place : place_of r (place_at r column) (place_at r row) ≡ row * (2 * r + 1) + column
+    place = ap₂ (λ m n. m * (2 * r + 1) + n) (from_left r row) (from_left r column)
+      where
+        from_left : (r n : ℕ) → unsigned_abs (place_at r n +ℤ pos r) ≡ n
+        from_left r n = omega (arith, ints)

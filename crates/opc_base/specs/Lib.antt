@@ -11,3 +11,6 @@ pub mod Rules
 pub mod Outside
 pub mod Memory
 pub mod Calm
+pub mod Blocks
+pub mod Lanes
+pub mod Changes

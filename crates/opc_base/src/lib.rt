@@ -24,6 +24,7 @@ mod name;
 mod outline;
 mod pixes;
 mod plane;
+mod product;
 mod rects;
 mod region;
 mod rules;

@@ -1,0 +1,4 @@
+pub mod AreaLaws
+pub mod CutLaws
+pub mod MetLaws
+pub mod SweptRect

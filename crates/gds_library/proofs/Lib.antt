@@ -1,0 +1,10 @@
+pub mod Firsts
+pub mod NameLemmas
+pub mod NameSets
+pub mod Language
+pub mod Prefix
+pub mod Accepting
+pub mod Closing
+pub mod Gathering
+pub mod Drafting
+pub mod Reading

@@ -1,0 +1,7 @@
+use Rattle.std.proofs.Common.{◌≡◌, Some, None, sym, ◌∙◌}
+use Rattle.gds_library.specs.OpenElement.{first_offset}
+use Rattle.gds_library.proofs.Closing.{elements_in-of, comes_to-other}
+use Rattle.gds_library.proofs.open_element.OpenElement.close.Goals as goal
+
+pub returns-in_default : goal.returns-in_default
+returns-in_default c rs held = sym (elements_in-of c.args.self.now None rs held c.in_default.is)

@@ -1,0 +1,4 @@
+pub mod Numbers
+pub mod KernelFile
+pub mod Faults
+pub mod Heads

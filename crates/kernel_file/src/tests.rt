@@ -1,0 +1,241 @@
+//! Kernel files by hand: what is read, and which fault comes first.
+use super::{KernelFault, read_kernels};
+use opc_base::Entry;
+use std::alloc::{AllocError, Global};
+use std::test::Fail;
+
+/// A place outside of the files here.
+const NOWHERE: (usize, u16) = (1000, 0);
+
+/// A file whose kernels are all equal: the magic, the numbers before the kernels, and for each kernel its weight and so
+/// many parts of entries, all of them equal.
+fn file_of(
+    alloc: Global,
+    magic: &[u8],
+    head: &[u16],
+    (count, weight): (u16, u16),
+    (parts, part): (u32, u16),
+) -> Result<Vec<u8>, AllocError> {
+    let mut file = magic.to_vec(alloc)?;
+    for number in head {
+        file.extend_from_slice(&number.to_be_bytes())?;
+    }
+    for _ in 0..count {
+        file.extend_from_slice(&weight.to_be_bytes())?;
+        for _ in 0..parts {
+            file.extend_from_slice(&part.to_be_bytes())?;
+        }
+    }
+    Ok(file)
+}
+
+fn put(file: &mut [u8], (place, number): (usize, u16)) {
+    if place < file.len() && file.len() - place >= 2 {
+        let [high, low] = number.to_be_bytes();
+        file[place] = high;
+        file[place + 1] = low;
+    }
+}
+
+/// What reading gives: how many kernels, or the fault.
+fn outcome(alloc: Global, file: &[u8]) -> Result<usize, KernelFault> {
+    let set = read_kernels(alloc, file)?;
+    Ok(set.kernels.as_slice().len())
+}
+
+/// What reading gives after two changes of the file.
+fn outcome_of(
+    alloc: Global,
+    file: &[u8],
+    first: (usize, u16),
+    second: (usize, u16),
+) -> Result<Result<usize, KernelFault>, AllocError> {
+    let mut file = file.to_vec(alloc)?;
+    put(&mut file, first);
+    put(&mut file, second);
+    Ok(outcome(alloc, &file))
+}
+
+fn entry(re: i16, im: i16) -> Entry {
+    Entry { re, im }
+}
+
+/// Rows from the lowest, each from the left, and the real part first.
+#[test]
+fn reads_each_number_at_its_place(rt: HostRuntime) -> Result<(), Fail> {
+    let file = b"OPK2\x00\x01\x00\x01\x00\x08\xff\xf8\xff\xff\x00\x02\x08\x00\
+        \x00\x01\xff\xff\x00\x02\xff\xfe\x00\x03\xff\xfd\
+        \x00\x04\xff\xfc\x00\x05\xff\xfb\x00\x06\xff\xfa\
+        \x00\x07\xff\xf9\x00\x08\xff\xf8\x00\x09\xff\xf7";
+    let set = read_kernels(rt.alloc(), file)?;
+    assert_eq!(rt;
+        (set.reach, set.covered, set.uncovered),
+        (1, entry(8, -8), entry(-1, 2))
+    );
+    let wanted = [
+        entry(1, -1),
+        entry(2, -2),
+        entry(3, -3),
+        entry(4, -4),
+        entry(5, -5),
+        entry(6, -6),
+        entry(7, -7),
+        entry(8, -8),
+        entry(9, -9),
+    ];
+    for kernel in set.kernels.as_slice() {
+        assert_eq!(rt; kernel.weight, 2048);
+        assert_eq!(rt; kernel.entries.as_slice(), wanted.as_slice());
+    }
+    Ok(())
+}
+
+/// Two kernels of reach 1. In the first format the file has 84 bytes and the kernels stand at 8 and at 46, in the second
+/// format it has 92 bytes and they stand at 16 and at 54.
+#[test]
+fn refuses_the_first_fault(rt: HostRuntime) -> Result<(), Fail> {
+    let old = file_of(rt.alloc(), b"OPK1", &[2, 1], (2, 1024), (18, 1))?;
+    let new = file_of(rt.alloc(), b"OPK2", &[2, 1, 2, 0, 0, 1], (2, 1024), (18, 1))?;
+    for (is_new, first, second, wanted) in [
+        (false, NOWHERE, NOWHERE, Ok(2)),
+        (false, (0, 0x4f51), (4, 0), Err(KernelFault::BadMagic)),
+        (false, (2, 0x4b33), NOWHERE, Err(KernelFault::BadMagic)),
+        (false, (2, 0x4b32), NOWHERE, Err(KernelFault::WrongLength)),
+        (false, (4, 0), (6, 65), Err(KernelFault::BadCount)),
+        (false, (4, 17), NOWHERE, Err(KernelFault::BadCount)),
+        (false, (4, 16), NOWHERE, Err(KernelFault::WrongLength)),
+        (false, (6, 65), (8, 0), Err(KernelFault::BadReach)),
+        (false, (6, 64), NOWHERE, Err(KernelFault::WrongLength)),
+        (false, (4, 1), (8, 0), Err(KernelFault::WrongLength)),
+        (
+            false,
+            (8, 0),
+            (46, 0),
+            Err(KernelFault::BadWeight { kernel: 0 }),
+        ),
+        (
+            false,
+            (46, 0),
+            (82, 2049),
+            Err(KernelFault::BadWeight { kernel: 1 }),
+        ),
+        (
+            false,
+            (44, 2049),
+            (46, 0),
+            Err(KernelFault::BadEntry { offset: 44 }),
+        ),
+        (
+            false,
+            (10, 2049),
+            (12, 2049),
+            Err(KernelFault::BadEntry { offset: 10 }),
+        ),
+        (
+            false,
+            (12, 0xf7ff),
+            (14, 2049),
+            Err(KernelFault::BadEntry { offset: 12 }),
+        ),
+        (
+            false,
+            (8, 1025),
+            (82, 2049),
+            Err(KernelFault::BadEntry { offset: 82 }),
+        ),
+        (false, (8, 1025), (82, 2048), Err(KernelFault::WeightSum)),
+        (false, (8, 65535), (46, 65535), Err(KernelFault::WeightSum)),
+        (false, (10, 2048), (82, 0xf800), Ok(2)),
+        (true, NOWHERE, NOWHERE, Ok(2)),
+        (true, (2, 0x4b31), NOWHERE, Err(KernelFault::WrongLength)),
+        (true, (4, 1), (8, 9), Err(KernelFault::WrongLength)),
+        (
+            true,
+            (8, 9),
+            (14, 9),
+            Err(KernelFault::BadTransmission { offset: 8 }),
+        ),
+        (
+            true,
+            (10, 0xfff7),
+            (16, 0),
+            Err(KernelFault::BadTransmission { offset: 10 }),
+        ),
+        (
+            true,
+            (12, 9),
+            (18, 129),
+            Err(KernelFault::BadTransmission { offset: 12 }),
+        ),
+        (
+            true,
+            (14, 0x8000),
+            NOWHERE,
+            Err(KernelFault::BadTransmission { offset: 14 }),
+        ),
+        (
+            true,
+            (18, 129),
+            (54, 0),
+            Err(KernelFault::BadEntry { offset: 18 }),
+        ),
+        (
+            true,
+            (54, 0),
+            (90, 0xff7f),
+            Err(KernelFault::BadWeight { kernel: 1 }),
+        ),
+        (
+            true,
+            (16, 2048),
+            (90, 0xff7f),
+            Err(KernelFault::BadEntry { offset: 90 }),
+        ),
+        (true, (16, 2048), (90, 0xff80), Err(KernelFault::WeightSum)),
+        (true, (8, 8), (14, 0xfff8), Ok(2)),
+    ] {
+        let file = if is_new { &new } else { &old };
+        assert_eq!(rt;
+            outcome_of(rt.alloc(), file, first, second)?,
+            wanted,
+            "{is_new} {first:?} {second:?}"
+        );
+    }
+    Ok(())
+}
+
+/// 16 kernels of reach 64 have 1,065,064 bytes, and in the second format 1,065,072.
+#[test]
+fn reads_no_other_length(rt: HostRuntime) -> Result<(), Fail> {
+    let head = b"OPK2\x00\x00\x00\x00\x00\x00\x00\x00\x00\x00\x00\x00";
+    for (length, wanted) in [
+        (0, KernelFault::BadMagic),
+        (3, KernelFault::BadMagic),
+        (4, KernelFault::WrongLength),
+        (15, KernelFault::WrongLength),
+        (16, KernelFault::BadCount),
+    ] {
+        assert_eq!(rt;
+            outcome(rt.alloc(), &head[..length]),
+            Err(wanted),
+            "{length}"
+        );
+    }
+    let mut file = file_of(rt.alloc(), b"OPK1", &[16, 64], (16, 128), (33282, 2048))?;
+    assert_eq!(rt; (file.len(), outcome(rt.alloc(), &file)), (1065064, Ok(16)));
+    for _ in 0..8 {
+        file.push(0)?;
+        assert_eq!(rt; outcome(rt.alloc(), &file), Err(KernelFault::WrongLength));
+    }
+    let file = file_of(
+        rt.alloc(),
+        b"OPK2",
+        &[16, 64, 8, 8, 8, 8],
+        (16, 128),
+        (33282, 128),
+    )?;
+    assert_eq!(rt; (file.len(), outcome(rt.alloc(), &file)), (1065072, Ok(16)));
+    let file = file_of(rt.alloc(), b"OPK1", &[1, 0], (1, 1), (2, 0))?;
+    assert_eq!(rt; (file.len(), outcome(rt.alloc(), &file)), (14, Ok(1)));
+    Ok(())
+}

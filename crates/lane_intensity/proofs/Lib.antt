@@ -1,0 +1,4 @@
+mod CornerSums
+mod PowerSums
+mod RectLaws
+mod Vectors

@@ -1,0 +1,43 @@
+-- The first of the pixels that begin in the rectangle, and of its corner.
+use Rattle.std.proofs.Common.{◌≡◌, Bool, false, not, if◌then◌else◌, Some, None, length, sym, ◌∙◌, ap, subst}
+use Rattle.outline_model.specs.declared.fragment.Fragment.{Fragment}
+use Rattle.opc_base.specs.declared.plane.Rect.{Rect}
+use Rattle.outline_model.specs.Outline.{is_vertical, mask, side_of}
+use Rattle.mask_rules.specs.First.{IsFirst, earlier}
+use Rattle.mask_rules.specs.Placements.{line_of}
+use Rattle.mask_rules.specs.Spots.{SpotsAt, is_ahead, lowest}
+use Rattle.mask_rules.specs.Stretches.{stretch_at}
+use Rattle.mask_rules.specs.Sweeps.{MiscountAt, corner_of}
+use Rattle.mask_rules.proofs.Drawn.{drawn}
+use Rattle.mask_rules.proofs.Miscount.{miscount_is}
+use Rattle.mask_rules.proofs.crossing.first_miscount.Goals as goal
+
+pub returns : goal.returns
+returns c =
+    let p = c.args.present.now in
+    let fs = p.fragments.now in
+    let line = line_of p in
+    let r = c.args.rect.now in
+    let outward = c.args.outward in
+    let inside = mask fs line in
+    let v = is_vertical (side_of fs p.moved) in
+    let v_is : c.is_vertical-vertical.result ≡ v = c.is_vertical-vertical.ensures ∙ ap (λ (f : Fragment). is_vertical f.side) c.get.ensures.fragment in
+    let begins = c.first_spot-begins.result in
+    let ends = c.first_spot-ends.result in
+    let band_is : c.lowest-band.result ≡ lowest v r = c.lowest-band.ensures ∙ ap (λ t. lowest t r) v_is in
+    let along_first : IsFirst (SpotsAt fs line false (lowest false r) outward) c.first_spot-along.result =
+    subst (λ (l : Rect). IsFirst (SpotsAt fs line false l outward) c.first_spot-along.result) c.lowest-left.ensures c.first_spot-along.ensures in
+    let begins_first : IsFirst (SpotsAt fs line v (lowest v r) outward) begins =
+    subst (λ (t : Bool). IsFirst (SpotsAt fs line t (lowest v r) outward) begins) v_is
+    (subst (λ (l : Rect). IsFirst (SpotsAt fs line c.is_vertical-vertical.result l outward) begins) band_is c.first_spot-begins.ensures) in
+    let ends_first : IsFirst (SpotsAt fs line v (lowest v r) (not outward)) ends =
+    subst (λ (t : Bool). IsFirst (SpotsAt fs line t (lowest v r) (not outward)) ends) v_is
+    (subst (λ (l : Rect). IsFirst (SpotsAt fs line c.is_vertical-vertical.result l (not outward)) ends) band_is c.first_spot-ends.ensures) in
+    let corner_is : c.corner_if-corner.result ≡ (if is_ahead ends begins then Some (corner_of r) else None) =
+    c.corner_if-corner.ensures ∙ ap (λ (t : Bool). if t then Some (corner_of r) else None) c.is_ahead.ensures in
+    subst (IsFirst (MiscountAt inside r outward))
+    (sym (c.earlier-2.ensures ∙ ap (λ t. earlier t c.corner_if-corner.result) c.earlier.ensures
+    ∙ ap (earlier (earlier c.first_spot-across.result c.first_spot-along.result)) corner_is))
+    (miscount_is inside (length fs) (stretch_at fs line) v r outward c.first_spot-across.result c.first_spot-along.result begins ends
+    (drawn fs line c.requires.list.outline c.requires.crosses) c.requires.wide c.requires.high c.requires.beside
+    c.first_spot-across.ensures along_first begins_first ends_first)

@@ -1,0 +1,39 @@
+-- A fragment that stays breaks no rule; else the verdict on the move decides.
+use Rattle.std.proofs.Common.{◌≡◌, ℤ, pos, List, get_or, set, w32, to_z, of_z, SFits, refl, sym, ◌∙◌, ap, subst, arith}
+use Rattle.std.proofs.lemmas.Int.{ints, to_z-of_z}
+use Rattle.std.proofs.lemmas.List.{set-get_or}
+use Rattle.outline_model.specs.Rules.{KeepsRules}
+use Rattle.mask_rules.specs.Verdicts.{IsJudged}
+use Rattle.mask_rules.proofs.VerdictLemmas.{judged_if_some, judged_is_none}
+use Rattle.mask_rules.proofs.judge.first_broken.Goals as goal
+
+pub returns-then-to-from-clause-kept : goal.returns-then-to-from-clause-kept
+returns-then-to-from-clause-kept c =
+    let o = c.args.offsets.now in
+    let within = c.requires.offsets.within c.args.i c.requires.fragment in
+    let low = within.0 in let high = within.1 in
+    let to_is : c.args.to ≡ get_or o c.args.i (pos 0) = (let is = c.if-to-from.true in omega (arith, ints)) in
+    let same : set o c.args.i c.args.to ≡ o = ap (set o c.args.i) to_is ∙ set-get_or o c.args.i (pos 0) in
+    (λ e. subst (λ (l : List ℤ). KeepsRules c.args.rules.now c.args.fragments.now l) (sym same) c.requires.keeps, λ keeps. refl)
+
+pub judge-requires-clause-keeps : goal.judge-requires-clause-keeps
+judge-requires-clause-keeps c =
+    let o = c.args.offsets.now in
+    let within = c.requires.offsets.within c.args.i c.requires.fragment in
+    let low = within.0 in let high = within.1 in
+    let from = get_or o c.args.i (pos 0) in
+    let from_is : to_z w32 (of_z w32 from) ≡ from = omega (arith, ints) in
+    let same : set o c.args.i (to_z w32 (of_z w32 from)) ≡ o = ap (set o c.args.i) from_is ∙ set-get_or o c.args.i (pos 0) in
+    subst (λ (l : List ℤ). KeepsRules c.args.rules.now c.args.fragments.now l) (sym same) c.requires.keeps
+
+pub returns-clause-broken : goal.returns-clause-broken
+returns-clause-broken c =
+    let to_fits : SFits w32 c.args.to = c.ranges.to in
+    let judged : IsJudged c.args.rules.now c.args.fragments.now (set c.args.offsets.now c.args.i c.args.to) c.judge.result = simp to_z-of_z at c.judge.ensures in
+    judged_if_some c.args.rules.now c.args.fragments.now (set c.args.offsets.now c.args.i c.args.to) c.judge.result judged
+
+pub returns-clause-kept : goal.returns-clause-kept
+returns-clause-kept c =
+    let to_fits : SFits w32 c.args.to = c.ranges.to in
+    let judged : IsJudged c.args.rules.now c.args.fragments.now (set c.args.offsets.now c.args.i c.args.to) c.judge.result = simp to_z-of_z at c.judge.ensures in
+    judged_is_none c.args.rules.now c.args.fragments.now (set c.args.offsets.now c.args.i c.args.to) c.judge.result judged

@@ -1,0 +1,48 @@
+-- The outline as stretches, each of which gives the mask on both of its sides.
+use Rattle.std.specs.Prelude.{◌≡◌, ◌≢◌, ℕ, ◌<◌, ℤ, pos, ◌-ℤ◌, ◌≤ℤ◌, ◌<ℤ◌, Bool, true, false, not, if◌then◌else◌, List, int_lt}
+use Rattle.std.specs.Int.{int_min, int_max}
+use Rattle.outline_model.specs.declared.fragment.Fragment.{Fragment}
+use Rattle.opc_base.specs.declared.plane.Rect.{Rect}
+use Rattle.opc_base.specs.declared.plane.Pix.{Pix}
+use Rattle.outline_model.specs.Outline.{Piece, vertical_piece, horizontal_piece}
+use Rattle.mask_rules.specs.declared.stretch.Stretch.{Stretch}
+
+-- a stretch that is walked from one place to another, with the inside on the left hand
+abbrev pub walked : Bool → ℤ → ℤ → ℤ → Stretch
+walked vertical at from to = record { at = at; low = int_min from to; high = int_max from to; opens = if vertical then int_lt to from else int_lt from to }
+
+abbrev pub piece_of : Bool → List Fragment → (ℕ → ℤ) → ℕ → Piece
+piece_of true fs line k = vertical_piece fs line k
+piece_of false fs line k = horizontal_piece fs line k
+
+abbrev pub stretch_of : Bool → Piece → Stretch
+stretch_of true p = walked true p.from.x p.from.y p.to.y
+stretch_of false p = walked false p.from.y p.from.x p.to.x
+
+-- what a fragment gives to the outline in one direction
+unfoldable pub stretch_at : List Fragment → (ℕ → ℤ) → Bool → ℕ → Stretch
+stretch_at fs line v k = stretch_of v (piece_of v fs line k)
+
+-- the stretch is beside t
+abbrev pub Spans : Stretch → ℤ → Type 0
+Spans s t = (s.low ≤ℤ t) × (t <ℤ s.high)
+
+-- a place across and a place along the stretches of one direction, as a pixel
+abbrev pub pixel_at : Bool → ℤ → ℤ → Pix
+pixel_at true a t = record { x = a; y = t }
+pixel_at false a t = record { x = t; y = a }
+
+abbrev pub rect_at : Bool → ℤ → ℤ → ℤ → ℤ → Rect
+rect_at true first past low high = record { x0 = first; y0 = low; x1 = past; y1 = high }
+rect_at false first past low high = record { x0 = low; y0 = first; x1 = high; y1 = past }
+
+abbrev pub turned : Bool → (ℤ → ℤ → Bool) → ℤ → ℤ → Bool
+turned true inside a t = inside a t
+turned false inside a t = inside t a
+
+-- n stretches of each direction are where the set changes
+pub record IsDrawn (inside : ℤ → ℤ → Bool) (n : ℕ) (stretch : Bool → ℕ → Stretch) : Type 0 where
+  pub faces : (v : Bool) (k : ℕ) (t : ℤ) → k < n → Spans (stretch v k) t
+      → (turned v inside (stretch v k).at t ≡ (stretch v k).opens) × (turned v inside ((stretch v k).at -ℤ pos 1) t ≡ not (stretch v k).opens)
+  pub all : (v : Bool) (a t : ℤ) → turned v inside a t ≢ turned v inside (a -ℤ pos 1) t
+      → (k : ℕ) × (k < n) × ((stretch v k).at ≡ a) × Spans (stretch v k) t

@@ -1,0 +1,115 @@
+ghost use Rattle.std.specs.Prelude.{◌≡◌, ◌<◌, ◌↔◌, ◌<ℤ◌, IsTrue, length, not};
+ghost use Rattle.outline_model.specs.Limits.{IsFragmentList};
+ghost use Rattle.outline_model.specs.Ranges.{IsWithin};
+ghost use Rattle.outline_model.specs.Outline.{end_at, high_end, is_vertical, joined, low_end, side_of};
+ghost use Rattle.mask_rules.specs.Limits.{IsStretchWithin};
+ghost use Rattle.mask_rules.specs.Placements.{IsPlacement, line_of};
+ghost use Rattle.mask_rules.specs.Stretches.{stretch_at};
+
+use crate::stretch::{Stretch, walk};
+use fragment::{Fragments, Join};
+use outline_model::is_vertical;
+
+/// Fragments at their offsets, but for one of them, which has another offset.
+#[derive(Clone, Copy)]
+pub struct Placement<'a> {
+    pub fragments: &'a Fragments,
+    pub offsets: &'a [i32],
+    pub moved: u32,
+    pub to: i32,
+}
+
+/// Where the line of a fragment lies.
+pub fn line(outline: &Placement, k: u32) -> i32
+    requires placement { IsPlacement outline.now }
+    requires k { k < length outline.now.fragments.now }
+    ensures line { result ≡ line_of outline.now k }
+    ensures within { IsWithin 1048128 result }
+{
+    let offset = if k == outline.moved {
+        outline.to
+    } else {
+        outline.offsets[k as usize]
+    };
+    outline.fragments.line_at(k, offset)
+}
+
+/// Where a fragment ends that has this join there, and on the target this place.
+pub fn end(outline: &Placement, join: Join, place: i32) -> i32
+    requires placement { IsPlacement outline.now }
+    requires join { joined join < length outline.now.fragments.now }
+    requires place { IsWithin 1048128 place }
+    ensures end { result ≡ end_at (line_of outline.now) join place }
+    ensures within { IsWithin 1048128 result }
+{
+    match join {
+        Join::Cut(_) => place,
+        Join::Corner(j) => line(outline, j),
+    }
+}
+
+/// Whether the low end of fragment `k` is below its high end.
+pub fn is_ordered(outline: &Placement, k: u32) -> bool
+    requires placement { IsPlacement outline.now }
+    requires k { k < length outline.now.fragments.now }
+    ensures { IsTrue result ↔ (low_end outline.now.fragments.now (line_of outline.now) k <ℤ high_end outline.now.fragments.now (line_of outline.now) k) }
+{
+    let fragment = outline.fragments.get(k);
+    let low = end(outline, fragment.low, fragment.lo);
+    let high = end(outline, fragment.high, fragment.hi);
+    low < high
+}
+
+/// What fragment `k` gives to the outline in one direction.
+pub fn stretch(outline: &Placement, vertical: bool, k: u32) -> Stretch
+    requires placement { IsPlacement outline.now }
+    requires k { k < length outline.now.fragments.now }
+    ensures stretch { result ≡ stretch_at outline.now.fragments.now (line_of outline.now) vertical k }
+    ensures within { IsStretchWithin result }
+    ensures list { IsFragmentList outline.now.fragments.now }
+{
+    if is_vertical(outline.fragments.get(k).side) == vertical {
+        own(outline, vertical, k)
+    } else {
+        jog(outline, vertical, k)
+    }
+}
+
+/// The fragment itself.
+fn own(outline: &Placement, vertical: bool, k: u32) -> Stretch
+    requires placement { IsPlacement outline.now }
+    requires k { k < length outline.now.fragments.now }
+    requires side { is_vertical (side_of outline.now.fragments.now k) ≡ vertical }
+    ensures stretch { result ≡ stretch_at outline.now.fragments.now (line_of outline.now) vertical k }
+    ensures within { IsStretchWithin result }
+{
+    let fragment = outline.fragments.get(k);
+    let (start_join, start_place) = fragment.start();
+    let (finish_join, finish_place) = fragment.finish();
+    let from = end(outline, start_join, start_place);
+    let to = end(outline, finish_join, finish_place);
+    let at = line(outline, k);
+    walk(vertical, at, from, to)
+}
+
+/// The jog after the fragment.
+fn jog(outline: &Placement, vertical: bool, k: u32) -> Stretch
+    requires placement { IsPlacement outline.now }
+    requires k { k < length outline.now.fragments.now }
+    requires side { is_vertical (side_of outline.now.fragments.now k) ≡ not vertical }
+    ensures stretch { result ≡ stretch_at outline.now.fragments.now (line_of outline.now) vertical k }
+    ensures within { IsStretchWithin result }
+{
+    let (join, place) = outline.fragments.get(k).finish();
+    let from = line(outline, k);
+    match join {
+        Join::Cut(j) => {
+            let to = line(outline, j);
+            walk(vertical, place, from, to)
+        }
+        Join::Corner(j) => {
+            let at = line(outline, j);
+            walk(vertical, at, from, from)
+        }
+    }
+}

@@ -1,0 +1,51 @@
+-- The status and the line of each fault of the engine.
+use Rattle.std.specs.Prelude.{ℕ, List, [], ◌∷◌, ◌++◌, codes}
+use Rattle.std.specs.Fmt.{decimal}
+use Rattle.kernel_file.specs.declared.fault.KernelFault.{KernelFault}
+use Rattle.kernel_file.specs.declared.fault.KernelFault.TheVariants as kernel
+use Rattle.opc_engine.specs.declared.ask.Which.{Which}
+use Rattle.opc_engine.specs.declared.ask.Which.TheVariants as which
+use Rattle.opc_engine.specs.declared.fault.EngineFault.{EngineFault}
+use Rattle.opc_engine.specs.declared.fault.EngineFault.TheVariants as engine
+
+-- the status of a fault of this file
+abbrev pub status_of_which : Which → ℕ
+status_of_which which.Layout = 5
+status_of_which which.Kernels = 6
+status_of_which which.Rules = 7
+status_of_which which.Moves = 8
+
+abbrev pub status_of_fault : EngineFault → ℕ
+status_of_fault (engine.NotYet file) = status_of_which file
+status_of_fault (engine.TooLong file) = status_of_which file
+status_of_fault (engine.Kernels fault) = 6
+status_of_fault engine.NoMemory = 10
+
+-- said of want of memory
+abbrev pub memory_line : List ℕ
+memory_line = codes "opc: out of memory" ++ 10 ∷ []
+
+-- the file that a line speaks of
+abbrev pub which_text : Which → List ℕ
+which_text which.Layout = codes "layout"
+which_text which.Kernels = codes "kernels"
+which_text which.Rules = codes "rules"
+which_text which.Moves = codes "moves"
+
+-- what a line says of a kernel file; of its want of memory the engine's own speaks
+abbrev pub kernels_text : KernelFault → List ℕ
+kernels_text kernel.BadMagic = codes "bad magic"
+kernels_text kernel.WrongLength = codes "wrong length"
+kernels_text kernel.BadCount = codes "bad count"
+kernels_text kernel.BadReach = codes "bad reach"
+kernels_text (kernel.BadTransmission offset) = codes "bad transmission at " ++ decimal offset
+kernels_text (kernel.BadWeight number) = codes "bad weight of kernel " ++ decimal number
+kernels_text (kernel.BadEntry offset) = codes "bad entry at " ++ decimal offset
+kernels_text kernel.WeightSum = codes "weights sum"
+kernels_text kernel.NoMemory = codes "out of memory"
+
+abbrev pub fault_line : EngineFault → List ℕ
+fault_line (engine.NotYet file) = codes "opc: " ++ which_text file ++ codes ": not yet" ++ 10 ∷ []
+fault_line (engine.TooLong file) = codes "opc: " ++ which_text file ++ codes ": too long" ++ 10 ∷ []
+fault_line (engine.Kernels fault) = codes "opc: kernels: " ++ kernels_text fault ++ 10 ∷ []
+fault_line engine.NoMemory = memory_line

@@ -1,0 +1,126 @@
+//! The top call.
+ghost use Rattle.std.specs.Prelude.{◌≡◌, ◌≤◌, OnOk, IfErr};
+ghost use Rattle.opc_base.specs.Outside.{Says};
+ghost use Rattle.opc_cli.specs.Command.{texts};
+ghost use Rattle.opc_cli.specs.Fault.{status_of_which, status_of_fault};
+ghost use Rattle.opc_cli.specs.Outcome.{IsStatus, IsRefusal, Done, HasNoCommand, CannotRead, CannotWrite, IsRefused, OutOfMemory, MustCome, SaysMemoryLine};
+ghost use Rattle.opc_cli.specs.Steps.{Counts, StopSaid};
+ghost use Rattle.opc_cli.specs.Stop.{status_of};
+
+use crate::command::WordFault;
+use crate::commands::serve;
+use crate::lines::{OUT_OF_MEMORY, line_of};
+use crate::stop::Stop;
+use crate::words::words_of;
+use opc_base::{Host, HostFault, Watch};
+use opc_engine::{EngineFault, Which};
+use std::alloc::Global;
+use std::thread::Threads;
+
+const DONE: u8 = 0;
+
+const BAD_WORDS: u8 = 2;
+
+const CANNOT_READ: u8 = 3;
+
+const CANNOT_WRITE: u8 = 4;
+
+const BAD_LAYOUT: u8 = 5;
+
+const BAD_KERNELS: u8 = 6;
+
+const BAD_RULES: u8 = 7;
+
+const BAD_MOVES: u8 = 8;
+
+const NO_MEMORY: u8 = 10;
+
+fn status_of_which(which: Which) -> u8
+    ensures { result ≡ status_of_which which }
+{
+    match which {
+        Which::Layout => BAD_LAYOUT,
+        Which::Kernels => BAD_KERNELS,
+        Which::Rules => BAD_RULES,
+        Which::Moves => BAD_MOVES,
+    }
+}
+
+fn status_of_fault(fault: &EngineFault) -> u8
+    ensures { result ≡ status_of_fault fault.now }
+{
+    match fault {
+        EngineFault::NotYet { which } | EngineFault::TooLong { which } => status_of_which(*which),
+        EngineFault::Kernels(_) => BAD_KERNELS,
+        EngineFault::NoMemory => NO_MEMORY,
+    }
+}
+
+fn status_of(stop: &Stop<'_>) -> u8
+    ensures { result ≡ status_of stop.now }
+{
+    match stop {
+        Stop::Words => BAD_WORDS,
+        Stop::Read(_) => CANNOT_READ,
+        Stop::Write(_) | Stop::Said => CANNOT_WRITE,
+        Stop::Refused(fault) => status_of_fault(fault),
+        Stop::NoMemory => NO_MEMORY,
+    }
+}
+
+/// Says that memory ran out, as far as that can be said.
+fn say_no_memory<H: Host>(alloc: Global, host: &mut H) -> u8
+    ensures status { result ≡ NO_MEMORY }
+    ensures line { SaysMemoryLine (H.outside host.old) (H.outside host.new) }
+    ensures rest { Says (H.outside host.old) (H.outside host.new) }
+{
+    let _ = host.say(alloc, OUT_OF_MEMORY.as_bytes());
+    NO_MEMORY
+}
+
+/// Says why a run stopped, and answers its status.
+fn say_stop<H: Host>(alloc: Global, host: &mut H, stop: &Stop<'_>) -> u8
+    ensures { StopSaid stop.now (H.outside host.old) result (H.outside host.new) }
+{
+    if let Stop::Said = stop {
+        return CANNOT_WRITE;
+    }
+    let Ok(line) = line_of(alloc, stop) else {
+        return say_no_memory(alloc, host);
+    };
+    match host.say(alloc, line.as_slice()) {
+        Ok(()) | Err(HostFault::Failed) => status_of(stop),
+        Err(HostFault::NoMemory) => say_no_memory(alloc, host),
+    }
+}
+
+/// All that the program does: reads its words, loads their files, stores and says the answer or says one line of what
+/// went wrong, and answers the status. `words` are those after the program's own name. Want of memory is status 10, and
+/// may come in any stage.
+pub fn opc_run<R: Threads + Sync, H: Host, W: Watch + Sync>(
+    rt: &R,
+    alloc: Global,
+    words: &[String],
+    host: &mut H,
+    watch: &W,
+) -> u8
+    ensures status { IsStatus result }
+    ensures done { result ≡ DONE → Done (texts words.now) (H.outside host.old) (H.outside host.new) }
+    ensures words { result ≡ BAD_WORDS → HasNoCommand (texts words.now) (H.outside host.old) (H.outside host.new) }
+    ensures read { result ≡ CANNOT_READ → CannotRead (texts words.now) (H.outside host.old) (H.outside host.new) }
+    ensures write { result ≡ CANNOT_WRITE → CannotWrite (texts words.now) (H.outside host.old) (H.outside host.new) }
+    ensures refused { IsRefusal result → IsRefused (texts words.now) (H.outside host.old) result (H.outside host.new) }
+    ensures memory { result ≡ NO_MEMORY → OutOfMemory (texts words.now) (H.outside host.old) (H.outside host.new) }
+    ensures must_come { MustCome (texts words.now) (H.outside host.old) result (H.outside host.new) }
+    ensures counts { Counts (H.outside host.old) (H.outside host.new) }
+{
+    let command = match words_of(alloc, words) {
+        Ok(command) => command,
+        Err(WordFault::Words) => return say_stop(alloc, host, &Stop::Words),
+        Err(WordFault::NoMemory) => return say_stop(alloc, host, &Stop::NoMemory),
+    };
+    match serve(alloc, &command, host) {
+        Ok(()) => DONE,
+        Err(stop) => say_stop(alloc, host, &stop),
+    }
+}

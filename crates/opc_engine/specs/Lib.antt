@@ -1,0 +1,4 @@
+pub mod AskRanges
+pub mod RectangleLayout
+pub mod Wrapped
+pub mod Probe

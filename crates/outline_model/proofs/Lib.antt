@@ -1,0 +1,14 @@
+pub mod Crossings
+pub mod Examples
+pub mod Locality
+pub mod MaskMoves
+pub mod MoveLaw
+pub mod Moves
+pub mod Pixels
+pub mod Reach
+pub mod RuleLocality
+pub mod Steps
+pub mod TargetJoins
+pub mod TargetMask
+pub mod Totals
+pub mod Walk

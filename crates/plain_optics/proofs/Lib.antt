@@ -1,0 +1,2 @@
+mod PowerLaws
+mod WeightLaws

@@ -1,0 +1,15 @@
+pub mod RowRuns
+pub mod Stacks
+pub mod Sums
+pub mod Columns
+pub mod Windings
+pub mod Merges
+pub mod Quadrants
+pub mod Sweeps
+pub mod Outlines
+pub mod Target
+pub mod Corners
+pub mod CornerSets
+pub mod CornerCount
+pub mod Merging
+pub mod Touches
