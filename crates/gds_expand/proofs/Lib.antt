@@ -2,3 +2,4 @@ pub mod PathLemmas
 pub mod PlacementLemmas
 pub mod PointLemmas
 pub mod WalkLemmas
+pub mod OutlineLemmas

@@ -1,3 +1,4 @@
 pub mod Placement
 pub mod Points
 pub mod Steps
+pub mod Forms

@@ -4,4 +4,6 @@
 mod path;
 mod placement;
 mod points;
+mod references;
+mod shapes;
 mod walk;

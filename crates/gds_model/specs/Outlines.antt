@@ -27,25 +27,28 @@ placed_points f points = map (λ p. f (position_of p)) points
 abbrev pub pixel_at : ℤ → Position → Pix
 pixel_at grid p = record { x = int_div p.x grid; y = int_div p.y grid }
 
--- the pixels of a rectangle whose corners are on the grid
+-- the pixels of a rectangle whose corners are multiples of a pixel's side
 abbrev pub pixels_in : ℤ → DoubledRect → Rect
-pixels_in grid r = record {
-  x0 = int_div r.x0 (pos 2 *ℤ grid);
-  y0 = int_div r.y0 (pos 2 *ℤ grid);
-  x1 = int_div r.x1 (pos 2 *ℤ grid);
-  y1 = int_div r.y1 (pos 2 *ℤ grid);
+pixels_in side r = record {
+  x0 = int_div r.x0 side;
+  y0 = int_div r.y0 side;
+  x1 = int_div r.x1 side;
+  y1 = int_div r.y1 side;
 }
 
 abbrev pub form_of : ℤ → ℤ → ℤ → ℤ → PathForm
 form_of ends width begin end = record { ends = ends; width = width; begin = begin; end = end }
 
--- a polygon by its points, and a path by its rectangles, of which a path of no width has none
+-- a path by its rectangles, of which a path of no width has none
+abbrev pub path_outline : ℤ → PathForm → List Position → Outline
+path_outline grid form points =
+    if int_eq form.width (pos 0) then Rectangles [] else Rectangles (map (pixels_in (pos 2 *ℤ grid)) (path_rects form points))
+
+-- a polygon by its points
 abbrev pub outline_through : ℤ → ShapeKind → List Position → Outline
 outline_through grid Boundary points = Polygon (map (pixel_at grid) points)
 outline_through grid Box points = Polygon (map (pixel_at grid) points)
-outline_through grid (Path ends width begin end) points =
-    if int_eq width (pos 0) then Rectangles []
-    else Rectangles (map (pixels_in grid) (path_rects (form_of ends width begin end) points))
+outline_through grid (Path ends width begin end) points = path_outline grid (form_of ends width begin end) points
 
 -- a shape as its chain places it
 abbrev pub outline_of : ℤ → Mapped → Outline

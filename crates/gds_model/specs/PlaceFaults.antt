@@ -40,14 +40,17 @@ is_regular r (Some grid) =
     int_le (pos 1) grid.columns && int_le (pos 1) grid.rows
     && are_steps grid.columns (displacement r 1) && are_steps grid.rows (displacement r 2)
 
--- what is wrong with a reference
-abbrev pub reference_fault : List Structure → Reference → Option PlaceFault
-reference_fault library r =
-    if is_none (number_of library r.name) then Some (Missing r.offset)
-    else if not (is_unit r.mag) then Some (BadMag r.offset)
+-- what is wrong with a reference that names a structure
+abbrev pub own_fault : Reference → Option PlaceFault
+own_fault r =
+    if not (is_unit r.mag) then Some (BadMag r.offset)
     else if is_none (turns_of r.angle) then Some (BadAngle r.offset)
     else if not (is_regular r r.array) then Some (BadArray r.offset)
     else None
+
+-- what is wrong with a reference
+abbrev pub reference_fault : List Structure → Reference → Option PlaceFault
+reference_fault library r = if is_none (number_of library r.name) then Some (Missing r.offset) else own_fault r
 
 -- a reference of a reached structure
 abbrev pub IsReached : List Structure → ℕ → Reference → Type 0
@@ -126,7 +129,7 @@ abbrev pub of_point : (ℤ → Bool) → Position → Bool
 of_point test p = test p.x || test p.y
 
 abbrev pub of_rect : (ℤ → Bool) → DoubledRect → Bool
-of_rect test r = test r.x0 || test r.y0 || test r.x1 || test r.y1
+of_rect test r = of_point test (record { x = r.x0; y = r.y0 }) || of_point test (record { x = r.x1; y = r.y1 })
 
 -- what is wrong with a polygon through these points
 abbrev pub polygon_fault : ℤ → ℕ → List Position → Option PlaceFault
@@ -137,16 +140,23 @@ polygon_fault grid offset points =
     else if list_any (of_point (is_far grid)) points then Some (OutOfRange offset)
     else None
 
--- What is wrong with a path through these points: its coordinates are those of its rectangles. A path of no width covers
--- nothing, and is passed over.
-abbrev pub path_fault : ℤ → ℕ → PathForm → List Position → Option PlaceFault
-path_fault grid offset form points =
-    if int_eq form.width (pos 0) then None
-    else if not (is_rectilinear points) then Some (NotRectilinear offset)
-    else if is_round form then Some (RoundPath offset)
-    else if list_any (of_rect (is_off (pos 2 *ℤ grid))) (path_rects form points) then Some (OffGrid offset)
-    else if list_any (of_rect (is_far (pos 2 *ℤ grid))) (path_rects form points) then Some (OutOfRange offset)
+-- what is wrong with the rectangles of a path
+abbrev pub rects_fault : ℤ → ℕ → List DoubledRect → Option PlaceFault
+rects_fault unit offset rects =
+    if list_any (of_rect (is_off unit)) rects then Some (OffGrid offset)
+    else if list_any (of_rect (is_far unit)) rects then Some (OutOfRange offset)
     else None
+
+-- what is wrong with a path that has a width: its coordinates are those of its rectangles, in halves of units
+abbrev pub wide_path_fault : ℤ → ℕ → PathForm → List Position → Option PlaceFault
+wide_path_fault side offset form points =
+    if not (is_rectilinear points) then Some (NotRectilinear offset)
+    else if is_round form then Some (RoundPath offset)
+    else rects_fault side offset (path_rects form points)
+
+-- a path of no width covers nothing, and is passed over
+abbrev pub path_fault : ℤ → ℕ → PathForm → List Position → Option PlaceFault
+path_fault grid offset form points = if int_eq form.width (pos 0) then None else wide_path_fault (pos 2 *ℤ grid) offset form points
 
 abbrev pub fault_through : ℤ → ℕ → ShapeKind → List Position → Option PlaceFault
 fault_through grid offset Boundary points = polygon_fault grid offset points
