@@ -14,3 +14,6 @@ mod short_lines;
 mod target_check;
 
 pub use target_check::check_target;
+
+#[cfg(test)]
+mod tests;
