@@ -30,3 +30,6 @@ mod target_check;
 
 pub use judge::first_broken;
 pub use target_check::check_target;
+
+#[cfg(test)]
+mod tests;

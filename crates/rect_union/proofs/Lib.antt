@@ -16,3 +16,4 @@ pub mod RectCornerLaws
 pub mod MergingLaws
 pub mod WithinLaws
 pub mod TouchLaws
+pub mod ClosedWalks

@@ -112,7 +112,7 @@ last_from-push : (p : Pix) (points : List Pix) (q : Pix) → last_from p (points
 last_from-push p [] q = refl
 last_from-push p (r ∷ points) q = last_from-push r points q
 
-last_from-take : (p : Pix) (points : List Pix) (j : ℕ) (d : Pix) → j ≤ length points → last_from p (take j points) ≡ get_or (p ∷ points) j d
+pub last_from-take : (p : Pix) (points : List Pix) (j : ℕ) (d : Pix) → j ≤ length points → last_from p (take j points) ≡ get_or (p ∷ points) j d
 last_from-take p points zero d within = refl
 last_from-take p [] (suc j) d within = absurd (omega arith)
 last_from-take p (r ∷ points) (suc j) d within = last_from-take r points j d (omega arith)

@@ -185,3 +185,11 @@ pub corner_rects_within : (limit : ℕ) (corners : List Corner) (rects : List Re
     → ((x y : ℤ) → cover rects x y ≡ corner_set corners x y) → limit ≤ 1048576 → All (IsCornerWithin limit) corners → All (IsRectWithin limit) rects
 corner_rects_within limit corners rects set canonical pixels most near =
     rects_in_limit limit rects canonical (λ x y is. corners_cover_within limit corners x y most near set (sym (pixels x y) ∙ is))
+
+-- ---- a greater limit
+
+pub within_more : (few more : ℕ) (rects : List Rect) → few ≤ more → All (IsRectWithin few) rects → All (IsRectWithin more) rects
+within_more few more rects most within k d below =
+    let near = within k d below in
+    let a = near.0 in let b = near.1 in let c = near.2 in let e = near.3 in
+    (omega arith, omega arith, omega arith, omega arith)

@@ -17,3 +17,6 @@ mod windings;
 pub use corners::region_of;
 pub use rect_corners::{first_touch, push_corners};
 pub use target::{UnionFault, union};
+
+#[cfg(test)]
+mod tests;

@@ -1,0 +1,180 @@
+//! Unions of polygons, worked out by hand.
+
+ghost use Rattle.std.specs.Prelude.{◌≡◌, ◌⊎◌, true, All, OnOk};
+ghost use Rattle.opc_base.specs.Cover.{IsClosed, IsPlaced, IsPolygon, IsRectilinear, IsStraight};
+ghost use Rattle.opc_base.specs.Plane.{IsPixWithin};
+
+use super::*;
+use opc_base::{NoMemory, Outline, Pix, Pixes, Placed, Rect};
+use std::alloc::Global;
+use std::test::Fail;
+
+/// Adds the polygon with these points, if it is closed, along the grid and within the limit.
+fn add(
+    alloc: Global,
+    outlines: &mut Vec<Outline>,
+    points: &[(i32, i32)],
+) -> Result<(), NoMemory>
+    requires { All IsPlaced outlines.old.items }
+    ensures { OnOk result (All IsPlaced outlines.new.items) }
+{
+    let mut pixes = Vec::new(alloc);
+    for (x, y) in points {
+        pixes.push(Pix { x: *x, y: *y })?;
+    }
+    if !is_polygon(&pixes) {
+        return Ok(());
+    }
+    outlines.push(Outline::Polygon(Pixes::from_vec(pixes)))?;
+    Ok(())
+}
+
+fn is_polygon(points: &[Pix]) -> bool
+    ensures { result ≡ true → IsPolygon points.now }
+{
+    if !is_closed(points) {
+        return false;
+    }
+    if !are_straight(points) {
+        return false;
+    }
+    are_within(points)
+}
+
+fn is_closed(points: &[Pix]) -> bool
+    ensures { result ≡ true → IsClosed points.now }
+{
+    if points.len() == 0 {
+        return false;
+    }
+    let first = points[0];
+    let last = points[points.len() - 1];
+    is_same(first, last)
+}
+
+fn is_same(first: Pix, second: Pix) -> bool
+    ensures { result ≡ true → first ≡ second }
+{
+    first.x == second.x && first.y == second.y
+}
+
+fn are_straight(points: &[Pix]) -> bool
+    ensures { result ≡ true → IsRectilinear points.now }
+{
+    for index in 1..points.len() {
+        if !is_straight(points[index - 1], points[index]) {
+            return false;
+        }
+    }
+    true
+}
+
+fn is_straight(from: Pix, to: Pix) -> bool
+    ensures { result ≡ true → IsStraight from to }
+{
+    from.x == to.x || from.y == to.y
+}
+
+fn are_within(points: &[Pix]) -> bool
+    ensures { result ≡ true → All (IsPixWithin 1048000) points.now }
+{
+    for point in points {
+        if !is_within(*point) {
+            return false;
+        }
+    }
+    true
+}
+
+fn is_within(point: Pix) -> bool
+    ensures { result ≡ true → IsPixWithin 1048000 point }
+{
+    point.x.unsigned_abs() <= 1_048_000 && point.y.unsigned_abs() <= 1_048_000
+}
+
+fn rect(x0: i32, y0: i32, x1: i32, y1: i32) -> Rect {
+    Rect { x0, y0, x1, y1 }
+}
+
+#[test]
+fn unites_overlaps_and_a_keyhole(rt: HostRuntime) -> Result<(), Fail> {
+    let alloc = rt.alloc();
+    let mut outlines = Vec::new(alloc);
+    add(alloc, &mut outlines, &[(0, 0), (10, 0), (10, 4), (0, 4), (0, 0)])?;
+    add(alloc, &mut outlines, &[(5, 2), (12, 2), (12, 8), (5, 8), (5, 2)])?;
+    add(
+        alloc,
+        &mut outlines,
+        &[
+            (20, 0),
+            (30, 0),
+            (30, 10),
+            (20, 10),
+            (20, 5),
+            (23, 5),
+            (23, 7),
+            (27, 7),
+            (27, 3),
+            (23, 3),
+            (23, 5),
+            (20, 5),
+            (20, 0),
+        ],
+    )?;
+    let region = union(alloc, &Placed::from_outlines(outlines))?;
+    let wanted = [
+        rect(0, 0, 10, 2),
+        rect(20, 0, 30, 3),
+        rect(0, 2, 12, 4),
+        rect(20, 3, 23, 7),
+        rect(27, 3, 30, 7),
+        rect(5, 4, 12, 8),
+        rect(20, 7, 30, 10),
+    ];
+    assert_eq!(rt; region.rects(), wanted.as_slice());
+    Ok(())
+}
+
+// A square walked one way, and over it one walked the other way, and a square walked twice.
+#[test]
+fn adds_no_windings_across_shapes(rt: HostRuntime) -> Result<(), Fail> {
+    let alloc = rt.alloc();
+    let mut outlines = Vec::new(alloc);
+    add(alloc, &mut outlines, &[(0, 0), (4, 0), (4, 4), (0, 4), (0, 0)])?;
+    add(alloc, &mut outlines, &[(0, 0), (0, 4), (4, 4), (4, 0), (0, 0)])?;
+    add(
+        alloc,
+        &mut outlines,
+        &[
+            (10, 0),
+            (14, 0),
+            (14, 4),
+            (10, 4),
+            (10, 0),
+            (14, 0),
+            (14, 4),
+            (10, 4),
+            (10, 0),
+        ],
+    )?;
+    let region = union(alloc, &Placed::from_outlines(outlines))?;
+    let wanted = [rect(0, 0, 4, 4), rect(10, 0, 14, 4)];
+    assert_eq!(rt; region.rects(), wanted.as_slice());
+    Ok(())
+}
+
+// Squares that touch at a corner only stay apart, and are found.
+#[test]
+fn finds_where_squares_touch(rt: HostRuntime) -> Result<(), Fail> {
+    let alloc = rt.alloc();
+    let mut outlines = Vec::new(alloc);
+    add(alloc, &mut outlines, &[(0, 0), (10, 0), (10, 10), (0, 10), (0, 0)])?;
+    add(alloc, &mut outlines, &[(10, 10), (20, 10), (20, 20), (10, 20), (10, 10)])?;
+    let region = union(alloc, &Placed::from_outlines(outlines))?;
+    let rects = region.rects();
+    let wanted = [rect(0, 0, 10, 10), rect(10, 10, 20, 20)];
+    assert_eq!(rt; rects, wanted.as_slice());
+    let touch = first_touch(alloc, rects)?;
+    assert_eq!(rt; touch, Some(Pix { x: 9, y: 9 }));
+    Ok(())
+}
