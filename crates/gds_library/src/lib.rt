@@ -29,7 +29,11 @@ mod numbers;
 mod open_element;
 mod progress;
 mod reader;
+#[cfg(test)]
+mod samples;
 mod state;
+#[cfg(test)]
+mod tests;
 
 pub use crate::library::Library;
 pub use crate::reader::read_library;
