@@ -1,4 +1,4 @@
-use Rattle.std.proofs.Common.{◌≡◌, ◌+◌, ◌-◌, take, refl, ap, sym, ◌∙◌, arith}
+use Rattle.std.proofs.Common.{◌≡◌, ◌+◌, ◌-◌, take, ap, sym, ◌∙◌, arith}
 use Rattle.gds_model.specs.Names.{name_of}
 use Rattle.gds_library.proofs.NameLemmas.{name_of-take_zero, name_of-take_other}
 use Rattle.gds_library.proofs.names.name_in.Goals as goal

@@ -1,4 +1,4 @@
-use Rattle.std.proofs.Common.{◌≡◌, ◌∷◌, [], ◌++◌, OnOk, refl, sym, ◌∙◌, subst}
+use Rattle.std.proofs.Common.{OnOk, refl, sym, ◌∙◌, subst}
 use Rattle.gds_records.specs.Records.{StreamRecord}
 use Rattle.gds_model.specs.declared.record_kind.RecordKind.{RecordKind}
 use Rattle.gds_model.specs.RecordKind.{code_of}
