@@ -22,9 +22,9 @@ use Rattle.gds_expand.specs.Steps.{Plan, steps_of, step_places, plan_places, IsR
 -- ---- depths
 
 -- what a step gives rests on what its structure gives
-record Respects {B : Type 0} (f : (ℕ → List B) → Step → List B) : Type 0 where
-  shape : (inner inner' : ℕ → List B) (x : Bor ShapeRead) → f inner (Shape x) ≡ f inner' (Shape x)
-  copy : (inner inner' : ℕ → List B) (t : ℕ) (m : Placement) → inner t ≡ inner' t → f inner (Copy t m) ≡ f inner' (Copy t m)
+pub record Respects {B : Type 0} (f : (ℕ → List B) → Step → List B) : Type 0 where
+  pub shape : (inner inner' : ℕ → List B) (x : Bor ShapeRead) → f inner (Shape x) ≡ f inner' (Shape x)
+  pub copy : (inner inner' : ℕ → List B) (t : ℕ) (m : Placement) → inner t ≡ inner' t → f inner (Copy t m) ≡ f inner' (Copy t m)
 
 flat_map-same : {B : Type 0} (f h : Step → List B) (steps : List Step) → ((step : Step) → Contains steps step → f step ≡ h step) →
     flat_map f steps ≡ flat_map h steps
@@ -35,7 +35,7 @@ flat_map-same f h (step ∷ steps) same =
     in_rest : (s : Step) → Contains steps s → Contains (step ∷ steps) s
     in_rest s (k, below, e) = (suc k, omega arith, e)
 
-steps_same : {B : Type 0} (f : (ℕ → List B) → Step → List B) → Respects f → (inner inner' : ℕ → List B) (steps : List Step) →
+pub steps_same : {B : Type 0} (f : (ℕ → List B) → Step → List B) → Respects f → (inner inner' : ℕ → List B) (steps : List Step) →
     ((t : ℕ) (m : Placement) → Contains steps (Copy t m) → inner t ≡ inner' t) → flat_map (f inner) steps ≡ flat_map (f inner') steps
 steps_same f r inner inner' steps same = flat_map-same (f inner) (f inner') steps each
   where
@@ -66,10 +66,10 @@ fixed f r plan rank ranked F next d s below =
     let lower : rank t < rank s = ranked.lower s t m there in
     depth_same f r plan rank ranked F next d (suc d) t (omega arith) (omega arith))
 
-step_places-respects : Respects step_places
+pub step_places-respects : Respects step_places
 step_places-respects = record { shape = λ inner inner' x. refl; copy = λ inner inner' t m e. ap (moved (placed m)) e }
 
-plan_places-next : (plan : Plan) (depth s : ℕ) → plan_places plan (suc depth) s ≡ flat_map (step_places (plan_places plan depth)) (steps_of plan s)
+pub plan_places-next : (plan : Plan) (depth s : ℕ) → plan_places plan (suc depth) s ≡ flat_map (step_places (plan_places plan depth)) (steps_of plan s)
 unfolding plan_places
 plan_places-next plan depth s = refl
 
@@ -130,7 +130,7 @@ left_of-push plan depth (x ∷ ts) t =
 
 -- ---- maps
 
-moved-moved : (f g h : Position → Position) (xs : List Mapped) → ((p : Position) → h p ≡ f (g p)) → moved h xs ≡ moved f (moved g xs)
+pub moved-moved : (f g h : Position → Position) (xs : List Mapped) → ((p : Position) → h p ≡ f (g p)) → moved h xs ≡ moved f (moved g xs)
 moved-moved f g h [] e = refl
 moved-moved f g h (x ∷ xs) e = ap₂ (λ y ys. y ∷ ys) (ap (λ k. let y : Mapped = (x.0, k) in y) (fun_ext (λ p. e (x.1 p)))) (moved-moved f g h xs e)
 
