@@ -1,11 +1,10 @@
 -- A plan places what its rows mean.
-use Rattle.std.proofs.Common.{◌≡◌, ℕ, zero, suc, ◌<◌, List, [], ◌∷◌, ◌++◌, map, Contains, refl, ap, ap₂, sym, ◌∙◌, arith}
+use Rattle.std.proofs.Common.{◌≡◌, ℕ, zero, suc, ◌<◌, List, [], ◌∷◌, ◌++◌, map, Contains, refl, ap, sym, ◌∙◌, arith}
 use Rattle.std.specs.List.{flat_map}
 use Rattle.std.proofs.lemmas.List.{append-nil}
 use Rattle.gds_model.specs.declared.position.Position.{Position}
 use Rattle.gds_model.specs.PlacedList.{Mapped, moved}
 use Rattle.gds_expand.specs.declared.placement.Placement.{Placement}
-use Rattle.gds_expand.specs.declared.walk.Step.{Step}
 use Rattle.gds_expand.specs.declared.walk.Step.TheVariants.{Copy}
 use Rattle.gds_expand.specs.Placement.{placed}
 use Rattle.gds_expand.specs.Steps.{Plan, steps_of, step_places, plan_places, IsRanked}
