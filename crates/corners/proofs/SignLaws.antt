@@ -8,7 +8,8 @@ use Rattle.opc_base.specs.Sums.{sum_each}
 use Rattle.opc_base.specs.declared.plane.Corner.{Corner}
 use Rattle.opc_base.specs.declared.plane.Rect.{Rect}
 use Rattle.corners.specs.Points.{IsAscending, IsSigned, Precedes, SignsWithin, corner_from, quadrants}
-use Rattle.corners.specs.Windows.{AreInRows, IsCornerIn, in_window}
+use Rattle.corners.specs.Windows.{AreInRows, IsCornerIn, Shows, in_window}
+use Rattle.opc_base.specs.Lanes.{AddUpNear}
 use Rattle.corners.specs.declared.points.Point.{Point}
 use Rattle.corners.proofs.MergeLaws.{quadrants-cons, quadrants-nil}
 
@@ -148,6 +149,34 @@ sign_outside window pixels x y (inr (inl out)) = sum_of_none _ _ _ _
 sign_outside window pixels x y (inr (inr out)) = sum_of_none _ _ _ _
     (hidden window pixels x y (inr (inr (omega (arith, ints))))) (hidden window pixels (x -ℤ pos 1) y (inr (inr (omega (arith, ints)))))
     (hidden window pixels x (y -ℤ pos 1) (inr (inr (omega (arith, ints))))) (hidden window pixels (x -ℤ pos 1) (y -ℤ pos 1) (inr (inr (omega (arith, ints)))))
+
+-- what the window shows whole is as it was
+shown : (window : Rect) (reach : ℕ) (x y u v : ℤ) → Shows window reach x y → unsigned_abs u ≤ reach → unsigned_abs v ≤ reach →
+    rect_cover window (x -ℤ u) (y -ℤ v) ≡ true
+shown window reach x y u v shows near_u near_v =
+    let left = shows.left in
+    let right = shows.right in
+    let bottom = shows.bottom in
+    let top = shows.top in
+    four_true (int_le window.x0 (x -ℤ u)) (int_lt (x -ℤ u) window.x1) (int_le window.y0 (y -ℤ v)) (int_lt (y -ℤ v) window.y1)
+    (at_least window.x0 (x -ℤ u) (omega (arith, ints))) (below (x -ℤ u) window.x1 (omega (arith, ints)))
+    (at_least window.y0 (y -ℤ v) (omega (arith, ints))) (below (y -ℤ v) window.y1 (omega (arith, ints)))
+  where
+    at_least : (a b : ℤ) → a ≤ℤ b → int_le a b ≡ true
+    at_least a b order = grind (arith, ints)
+
+    below : (a b : ℤ) → a <ℤ b → int_lt a b ≡ true
+    below a b order = grind (arith, ints)
+
+    four_true : (a b c d : Bool) → a ≡ true → b ≡ true → c ≡ true → d ≡ true → (a && b && c && d) ≡ true
+    four_true a b c d p q r s = rw (p, q, r, s)
+
+pub add_up_near : (window : Rect) (pixels : PixelSet) (corners : List Corner) (reach : ℕ) (x y : ℤ) →
+    ((x y : ℤ) → quadrant_sum corners x y ≡ indicator (in_window window pixels) x y) → Shows window reach x y → AddUpNear reach corners pixels x y
+add_up_near window pixels corners reach x y sums shows = record {
+  each = λ u v near_u near_v. sums (x -ℤ u) (y -ℤ v)
+      ∙ ap (λ b. if b && pixels (x -ℤ u) (y -ℤ v) then pos 1 else pos 0) (shown window reach x y u v shows near_u near_v);
+}
 
 -- ---- the points of a set in a window
 module _ (window : Rect) (pixels : PixelSet) (ps : List Point) (ascending : IsAscending ps) (signed : IsSigned ps)

@@ -1,5 +1,5 @@
 -- What a window shows of a set of pixels, and its corners.
-use Rattle.std.specs.Prelude.{◌≡◌, ◌≢◌, ◌⊎◌, ◌≤◌, ℤ, pos, ◌≤ℤ◌, ◌<ℤ◌, unsigned_abs, ◌&&◌, List, AllPairs}
+use Rattle.std.specs.Prelude.{◌≡◌, ◌≢◌, ◌⊎◌, ℕ, ◌≤◌, ℤ, pos, ◌+ℤ◌, ◌-ℤ◌, ◌≤ℤ◌, ◌<ℤ◌, unsigned_abs, ◌&&◌, List, AllPairs}
 use Rattle.std.specs.Int.{int_max, int_min}
 use Rattle.opc_base.specs.Plane.{PixelSet, rect_cover}
 use Rattle.opc_base.specs.declared.plane.Corner.{Corner}
@@ -25,3 +25,10 @@ pub record IsCornerIn (window : Rect) (c : Corner) : Type 0 where
 -- by rows from the lowest, each from the left, no two at one point
 abbrev pub AreInRows : List Corner → Type 0
 AreInRows corners = AllPairs (λ c d. (c.y <ℤ d.y) ⊎ ((c.y ≡ d.y) × (c.x <ℤ d.x))) corners
+
+-- the window has each pixel within the reach of (x, y)
+pub record Shows (window : Rect) (reach : ℕ) (x y : ℤ) : Type 0 where
+  pub left : window.x0 ≤ℤ (x -ℤ pos reach)
+  pub right : (x +ℤ pos reach) <ℤ window.x1
+  pub bottom : window.y0 ≤ℤ (y -ℤ pos reach)
+  pub top : (y +ℤ pos reach) <ℤ window.y1

@@ -1,10 +1,11 @@
 //! The corners of rectangles in a window.
 
-ghost use Rattle.std.specs.Prelude.{◌≡◌, ◌+◌, ◌*◌, ◌≤◌, ℤ, ◌+ℤ◌, ◌&&◌, int_lt, IfOk, OnOk, All, length};
+ghost use Rattle.std.specs.Prelude.{◌≡◌, ℕ, ◌+◌, ◌*◌, ◌≤◌, ℤ, ◌+ℤ◌, ◌&&◌, int_lt, IfOk, OnOk, All, length};
+ghost use Rattle.opc_base.specs.Lanes.{AddUpNear};
 ghost use Rattle.opc_base.specs.Corners.{point_sum, quadrant_sum, sign_at};
 ghost use Rattle.opc_base.specs.Plane.{HaveNoOverlap, IsRectWithin, cover, indicator, rect_cover};
 ghost use Rattle.corners.specs.Points.{AreCornersFrom, IsAscending, IsSigned, SignsWithin, quadrants};
-ghost use Rattle.corners.specs.Windows.{AreInRows, IsCornerIn, clip, in_window};
+ghost use Rattle.corners.specs.Windows.{AreInRows, IsCornerIn, Shows, clip, in_window};
 
 use crate::points::{Point, merge_points, push_points};
 use opc_base::{Corner, NoMemory, Rect};
@@ -26,6 +27,9 @@ pub fn corners_of(alloc: Global, rects: &[Rect], window: Rect) -> Result<Vec<Cor
     // exactly the signs of the set in the window
     ensures signs { IfOk result (λ corners. (x y : ℤ) → point_sum corners.items x y ≡ sign_at (in_window window (cover rects.now)) x y) }
     ensures quadrants { IfOk result (λ corners. (x y : ℤ) → quadrant_sum corners.items x y ≡ indicator (in_window window (cover rects.now)) x y) }
+
+    // so they add up to the rectangles within each reach that the window shows whole
+    ensures near { IfOk result (λ corners. (reach : ℕ) (x y : ℤ) → Shows window reach x y → AddUpNear reach corners.items (cover rects.now) x y) }
     ensures few { IfOk result (λ corners. length corners.items ≤ 4 * length rects.now) }
 {
     let mut points = Vec::new(alloc);

@@ -7,7 +7,7 @@ use Rattle.opc_base.proofs.SumLaws.{sum_each-more, sum_each_start}
 use Rattle.corners.specs.Points.{IsAscending, IsInOrder, IsSigned, SignsWithin, corner_from, quadrants}
 use Rattle.corners.specs.Windows.{AreInRows, IsCornerIn, clip, in_window}
 use Rattle.corners.proofs.MergeLaws.{in_order, quadrants-nil}
-use Rattle.corners.proofs.SignLaws.{each_in, in_rows, quadrants_are, signs_are, signs_within}
+use Rattle.corners.proofs.SignLaws.{add_up_near, each_in, in_rows, quadrants_are, signs_are, signs_within}
 use Rattle.corners.proofs.WindowLaws.{merged_sums}
 use Rattle.corners.proofs.window_corners.corners_of.Goals as goal
 
@@ -82,3 +82,7 @@ pub returns-clause-quadrants : goal.returns-clause-quadrants
 returns-clause-quadrants c x y =
     ap (λ corners. quadrant_sum corners x y) (made c)
     ∙ quadrants_are c.args.window (cover c.args.rects.now) c.in_ok-merged.merged.items c.in_ok-merged.ensures.ascending c.in_ok-merged.ensures.signed (sums_then c) x y
+
+pub returns-clause-near : goal.returns-clause-near
+returns-clause-near c reach x y shows =
+    add_up_near c.args.window (cover c.args.rects.now) c.in_ok-corners.corners.items reach x y (returns-clause-quadrants c) shows
