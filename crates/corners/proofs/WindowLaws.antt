@@ -1,5 +1,5 @@
 -- What a window shows of disjoint rectangles, and the four points of a rectangle.
-use Rattle.std.proofs.Common.{◌≡◌, ◌≢◌, ◌⊎◌, inl, inr, ℕ, zero, suc, ◌+◌, ◌*◌, ◌<◌, ◌≤◌, ℤ, pos, negsuc, ◌+ℤ◌, ◌-ℤ◌, ◌≤ℤ◌, ◌<ℤ◌, int_le, int_lt, unsigned_abs, Bool, true, false, not, ◌&&◌, ◌||◌, if◌then◌else◌, IsTrue, IsFalse, List, [], ◌∷◌, ◌++◌, All, AllPairs, length, get_or, take, map, refl, ap, ap₂, ◌∙◌, sym, subst, arith, neg_ℤ, IsPermutation, SFits, w32, to_z, of_z}
+use Rattle.std.proofs.Common.{◌≡◌, ◌⊎◌, inl, inr, ℕ, suc, ◌+◌, ◌<◌, ◌≤◌, ℤ, pos, negsuc, ◌+ℤ◌, ◌≤ℤ◌, ◌<ℤ◌, int_le, int_lt, unsigned_abs, Bool, true, false, not, ◌&&◌, ◌||◌, if◌then◌else◌, IsTrue, IsFalse, List, [], ◌∷◌, ◌++◌, All, AllPairs, length, get_or, take, map, refl, ap, ap₂, ◌∙◌, sym, subst, arith, neg_ℤ, IsPermutation, w32, to_z, of_z}
 use Rattle.std.proofs.lemmas.Int.{ints, clamps}
 use Rattle.std.specs.Int.{int_max, int_min}
 use Rattle.opc_base.specs.Plane.{AreDisjoint, HaveNoOverlap, PixelSet, cover, indicator, rect_cover}

@@ -1,4 +1,4 @@
-use Rattle.std.proofs.Common.{◌≡◌, pos, get_or, SFits, w32, to_z-of_z, rules, arith}
+use Rattle.std.proofs.Common.{pos, get_or, SFits, w32, to_z-of_z, rules, arith}
 use Rattle.std.proofs.lemmas.Int.{ints}
 use Rattle.corners.specs.declared.points.Point.{Point}
 use Rattle.corners.proofs.WindowLaws.{corner_is, pushed_corner}
