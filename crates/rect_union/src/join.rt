@@ -1,7 +1,7 @@
 //! The union of many outlines, a few at a time.
 //!
-//! A sweep costs its rows times the columns that are active in a row. So outlines that overlap are first joined by
-//! thirty-two, and what they cover again by thirty-two, until few are left: what many cover has few sides.
+//! A sweep costs its rows times the columns that are active in a row. So outlines are first joined by fours, and what
+//! these cover again by fours, until few are left: what many that overlap cover has few sides.
 
 ghost use Rattle.std.specs.Prelude.{◌≡◌, ℤ, All, IfOk};
 ghost use Rattle.opc_base.specs.Canonical.{AreCanonical};
@@ -16,7 +16,7 @@ use crate::sweep::region_of_quadrants;
 use opc_base::{Outline, Rect, Rects};
 use std::alloc::{AllocError, Global};
 
-const GROUP: usize = 32;
+const GROUP: usize = 4;
 
 /// The canonical rectangles of the pixels that some outline covers.
 pub fn joined_rects(alloc: Global, outlines: &[Outline]) -> Result<Vec<Rect>, AllocError>
@@ -26,7 +26,7 @@ pub fn joined_rects(alloc: Global, outlines: &[Outline]) -> Result<Vec<Rect>, Al
     ensures pixels { IfOk result (λ rects. (x y : ℤ) → cover rects.items x y ≡ target outlines.now x y) }
 {
     let mut joined = join_groups(alloc, outlines)?;
-    for _ in 0..4 {
+    for _ in 0..10 {
         joined = join_again(alloc, joined)?;
     }
     let rects = target_rects(alloc, &joined)?;
