@@ -9,8 +9,7 @@ use Rattle.opc_base.specs.declared.plane.Side.TheVariants.{Left, Right, Down, Up
 use Rattle.outline_model.specs.declared.fragment.Join.{Join}
 use Rattle.outline_model.specs.declared.fragment.Join.TheVariants.{Cut, Corner}
 use Rattle.outline_model.specs.declared.fragment.Fragment.{Fragment}
-use Rattle.outline_model.specs.Limits.{IsFragmentList, IsOffsets}
-use Rattle.outline_model.specs.Ranges.{IsWithin}
+use Rattle.outline_model.specs.Limits.{IsFragmentList}
 use Rattle.outline_model.specs.Near.{IsWithinReach, KeepNear}
 use Rattle.mask_rules.specs.Placements.{IsNearOffset}
 use Rattle.outline_model.specs.Outline.{IsOutline, DiffersOnlyAt, fragment_at, side_of, outward, lines, end_at, start_join, start_place, finish_join, finish_place, joined, next, previous}

@@ -1,5 +1,5 @@
 -- The rules of fragments come first.
-use Rattle.std.proofs.Common.{◌≡◌, ◌<◌, ◌≤◌, ◌≤ℤ◌, inl, inr, neg_ℤ, true, false, Some, length, set, w32, SFits, sym, ◌∙◌, ap, subst, arith}
+use Rattle.std.proofs.Common.{◌≡◌, ◌<◌, ◌≤ℤ◌, inl, inr, neg_ℤ, true, false, Some, length, set, w32, SFits, sym, ◌∙◌, ap, subst, arith}
 use Rattle.std.specs.Prelude.{IsTrue, ◌↔◌}
 use Rattle.std.proofs.lemmas.Int.{ints, to_z-of_z}
 use Rattle.outline_model.specs.declared.fragment.Fragment.{Fragment}
