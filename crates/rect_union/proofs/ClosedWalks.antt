@@ -1,5 +1,5 @@
 -- A walk that ends at its first point is closed.
-use Rattle.std.proofs.Common.{◌≡◌, ℕ, suc, ◌+◌, ◌-◌, ◌<◌, List, [], ◌∷◌, length, get_or, take_all, sym, ◌∙◌, ap, arith}
+use Rattle.std.proofs.Common.{◌≡◌, ◌-◌, ◌<◌, List, [], ◌∷◌, length, get_or, take_all, sym, ◌∙◌, ap, arith}
 use Rattle.opc_base.specs.declared.plane.Pix.{Pix}
 use Rattle.opc_base.specs.Cover.{IsClosed, last_from}
 use Rattle.rect_union.proofs.OutlineLaws.{last_from-take}

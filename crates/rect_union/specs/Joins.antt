@@ -1,5 +1,5 @@
 -- Outlines that cover what others do.
-use Rattle.std.specs.Prelude.{◌≡◌, ◌+◌, ℤ, ◌||◌, List, All}
+use Rattle.std.specs.Prelude.{◌≡◌, ℤ, ◌||◌, List, All}
 use Rattle.opc_base.specs.declared.outline.Outline.{Outline}
 use Rattle.opc_base.specs.Cover.{IsPlaced, outline_cover}
 use Rattle.opc_base.specs.Target.{target}

@@ -1,4 +1,3 @@
-use Rattle.std.proofs.Common.{◌≡◌}
 use Rattle.rect_union.proofs.JoinLaws.{joining_step}
 use Rattle.rect_union.proofs.join.join_groups.Goals as goal
 

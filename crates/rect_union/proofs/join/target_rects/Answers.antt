@@ -1,6 +1,4 @@
-use Rattle.std.proofs.Common.{List, length, ◌∙◌, ap, arith}
-use Rattle.opc_base.specs.declared.outline.Outline.{Outline}
-use Rattle.opc_base.specs.Target.{target}
+use Rattle.std.proofs.Common.{length, ◌∙◌, arith}
 use Rattle.rect_union.proofs.TargetLaws.{is_wound-target, quadrants_sorted}
 use Rattle.rect_union.proofs.WithinLaws.{rects_are_within}
 use Rattle.rect_union.proofs.join.target_rects.Goals as goal
