@@ -1,7 +1,6 @@
 -- The lines of an error table. Each ends with a line feed; numbers are decimal, negative ones with a minus.
 use Rattle.std.specs.Prelude.{ℕ, ℤ, Bool, if◌then◌else◌, List, [], ◌∷◌, ◌++◌, codes}
 use Rattle.std.specs.Fmt.{decimal, signed_decimal}
-use Rattle.opc_base.specs.declared.plane.Pix.{Pix}
 use Rattle.opc_base.specs.declared.plane.Side.{Side}
 use Rattle.opc_base.specs.declared.plane.Side.TheVariants.{Left, Right, Down, Up}
 use Rattle.opc_base.specs.declared.broken.RuleName.{RuleName}

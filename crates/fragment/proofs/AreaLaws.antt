@@ -10,7 +10,7 @@ use Rattle.outline_model.specs.declared.fragment.Fragment.{Fragment}
 use Rattle.outline_model.specs.Limits.{IsFragmentList, IsPlacedFragment}
 use Rattle.outline_model.specs.Near.{IsWithinReach}
 use Rattle.outline_model.specs.Outline.{fragment_at, is_vertical}
-use Rattle.fragment.specs.Index.{AreEnclosed, IsIndex, IsInside, NoneMet, area_at, area_of, areas_of, is_met, reaches}
+use Rattle.fragment.specs.Index.{AreEnclosed, IsIndex, IsInside, IsShrunk, NoneMet, area_at, area_of, areas_of, is_met, reaches}
 
 -- ---- the area of a fragment
 
@@ -79,43 +79,49 @@ misses_inside inner outer r inside none = by (int_le r.x0 inner.x1) (int_lt inne
         let left = inside.left in let below = inside.below in let right = inside.right in let above = inside.above in
         absurd (true_false (sym (reaches_true outer r (omega (arith, ints)) (omega (arith, ints)) (omega (arith, ints)) (omega (arith, ints))) ∙ none))
 
--- a fragment within 128 of a pixel of the rectangle is met
-pub is_met_near : (fs : List Fragment) (r : Rect) (k : ℕ) (x y : ℤ) → rect_cover r x y ≡ true → IsWithinReach (fragment_at fs k) (pos 128) x y → is_met fs r k ≡ true
-is_met_near fs r k x y covered near = by (int_le r.x0 x) (int_lt x r.x1) (int_le r.y0 y) (int_lt y r.y1) refl refl refl refl covered (is_vertical (fragment_at fs k).side) refl
+-- A fragment within reach of a pixel of the rectangle is met by the rectangle that is smaller by what the reach lacks.
+pub is_met_within : (fs : List Fragment) (r s : Rect) (reach margin : ℤ) (k : ℕ) (x y : ℤ) → IsShrunk r margin s → (reach +ℤ margin) ≡ pos 128
+    → rect_cover r x y ≡ true → IsWithinReach (fragment_at fs k) reach x y → is_met fs s k ≡ true
+is_met_within fs r s reach margin k x y shrunk whole covered near =
+    by (int_le r.x0 x) (int_lt x r.x1) (int_le r.y0 y) (int_lt y r.y1) refl refl refl refl covered (is_vertical (fragment_at fs k).side) refl
   where
-    f : Fragment
-    f = fragment_at fs k
-
     false_true : false ≡ true → ⊥
     false_true e = cc e
 
-    met : (v : Bool) → is_vertical f.side ≡ v → r.x0 ≤ℤ x → x <ℤ r.x1 → r.y0 ≤ℤ y → y <ℤ r.y1 → is_met fs r k ≡ true
+    met : (v : Bool) → is_vertical (fragment_at fs k).side ≡ v → r.x0 ≤ℤ x → x <ℤ r.x1 → r.y0 ≤ℤ y → y <ℤ r.y1 → is_met fs s k ≡ true
     met true v e f g h =
-        let left = near.left in let right = near.right in let below = near.below in let above = near.above in
+        let a = shrunk.left in let b = shrunk.below in let c = shrunk.right in let d = shrunk.above in
         let area_is : area_of (fragment_at fs k) ≡ upright_area (fragment_at fs k) = ap (λ (t : Bool). if t then upright_area (fragment_at fs k) else level_area (fragment_at fs k)) v in
-        let l = subst (λ (t : Bool). ((if t then (fragment_at fs k).edge else (fragment_at fs k).lo) -ℤ pos 128) ≤ℤ x) v left in
-        let m = subst (λ (t : Bool). x ≤ℤ ((if t then (fragment_at fs k).edge else (fragment_at fs k).hi) +ℤ pos 128)) v right in
-        let n = subst (λ (t : Bool). ((if t then (fragment_at fs k).lo else (fragment_at fs k).edge) -ℤ pos 128) ≤ℤ y) v below in
-        let o = subst (λ (t : Bool). y ≤ℤ ((if t then (fragment_at fs k).hi else (fragment_at fs k).edge) +ℤ pos 128)) v above in
-        ap (λ a. reaches a r) area_is
-        ∙ reaches_true (upright_area (fragment_at fs k)) r (omega (arith, ints)) (omega (arith, ints)) (omega (arith, ints)) (omega (arith, ints))
+        let l = subst (λ (t : Bool). ((if t then (fragment_at fs k).edge else (fragment_at fs k).lo) -ℤ reach) ≤ℤ x) v near.left in
+        let m = subst (λ (t : Bool). x ≤ℤ ((if t then (fragment_at fs k).edge else (fragment_at fs k).hi) +ℤ reach)) v near.right in
+        let n = subst (λ (t : Bool). ((if t then (fragment_at fs k).lo else (fragment_at fs k).edge) -ℤ reach) ≤ℤ y) v near.below in
+        let o = subst (λ (t : Bool). y ≤ℤ ((if t then (fragment_at fs k).hi else (fragment_at fs k).edge) +ℤ reach)) v near.above in
+        ap (λ a. reaches a s) area_is
+        ∙ reaches_true (upright_area (fragment_at fs k)) s (omega (arith, ints)) (omega (arith, ints)) (omega (arith, ints)) (omega (arith, ints))
     met false v e f g h =
-        let left = near.left in let right = near.right in let below = near.below in let above = near.above in
+        let a = shrunk.left in let b = shrunk.below in let c = shrunk.right in let d = shrunk.above in
         let area_is : area_of (fragment_at fs k) ≡ level_area (fragment_at fs k) = ap (λ (t : Bool). if t then upright_area (fragment_at fs k) else level_area (fragment_at fs k)) v in
-        let l = subst (λ (t : Bool). ((if t then (fragment_at fs k).edge else (fragment_at fs k).lo) -ℤ pos 128) ≤ℤ x) v left in
-        let m = subst (λ (t : Bool). x ≤ℤ ((if t then (fragment_at fs k).edge else (fragment_at fs k).hi) +ℤ pos 128)) v right in
-        let n = subst (λ (t : Bool). ((if t then (fragment_at fs k).lo else (fragment_at fs k).edge) -ℤ pos 128) ≤ℤ y) v below in
-        let o = subst (λ (t : Bool). y ≤ℤ ((if t then (fragment_at fs k).hi else (fragment_at fs k).edge) +ℤ pos 128)) v above in
-        ap (λ a. reaches a r) area_is
-        ∙ reaches_true (level_area (fragment_at fs k)) r (omega (arith, ints)) (omega (arith, ints)) (omega (arith, ints)) (omega (arith, ints))
+        let l = subst (λ (t : Bool). ((if t then (fragment_at fs k).edge else (fragment_at fs k).lo) -ℤ reach) ≤ℤ x) v near.left in
+        let m = subst (λ (t : Bool). x ≤ℤ ((if t then (fragment_at fs k).edge else (fragment_at fs k).hi) +ℤ reach)) v near.right in
+        let n = subst (λ (t : Bool). ((if t then (fragment_at fs k).lo else (fragment_at fs k).edge) -ℤ reach) ≤ℤ y) v near.below in
+        let o = subst (λ (t : Bool). y ≤ℤ ((if t then (fragment_at fs k).hi else (fragment_at fs k).edge) +ℤ reach)) v near.above in
+        ap (λ a. reaches a s) area_is
+        ∙ reaches_true (level_area (fragment_at fs k)) s (omega (arith, ints)) (omega (arith, ints)) (omega (arith, ints)) (omega (arith, ints))
 
     by : (p q u v : Bool) → int_le r.x0 x ≡ p → int_lt x r.x1 ≡ q → int_le r.y0 y ≡ u → int_lt y r.y1 ≡ v → ((p && q) && u) && v ≡ true
-        → (w : Bool) → is_vertical f.side ≡ w → is_met fs r k ≡ true
+        → (w : Bool) → is_vertical (fragment_at fs k).side ≡ w → is_met fs s k ≡ true
     by true true true true i j g l c w is = met w is (omega (arith, ints)) (omega (arith, ints)) (omega (arith, ints)) (omega (arith, ints))
     by false q u v i j g l c w is = absurd (false_true c)
     by true false u v i j g l c w is = absurd (false_true c)
     by true true false v i j g l c w is = absurd (false_true c)
     by true true true false i j g l c w is = absurd (false_true c)
+
+not_shrunk : (r : Rect) → IsShrunk r (pos 0) r
+not_shrunk r = record { left = omega (arith, ints); below = omega (arith, ints); right = omega (arith, ints); above = omega (arith, ints) }
+
+-- a fragment within 128 of a pixel of the rectangle is met
+pub is_met_near : (fs : List Fragment) (r : Rect) (k : ℕ) (x y : ℤ) → rect_cover r x y ≡ true → IsWithinReach (fragment_at fs k) (pos 128) x y → is_met fs r k ≡ true
+is_met_near fs r k x y covered near = is_met_within fs r r (pos 128) (pos 0) k x y (not_shrunk r) refl covered near
 
 -- ---- what an index leaves out
 

@@ -16,6 +16,13 @@ area_of f =
 abbrev pub reaches : Rect → Rect → Bool
 reaches area rect = ((int_le rect.x0 area.x1 && int_lt area.x0 rect.x1) && int_le rect.y0 area.y1) && int_lt area.y0 rect.y1
 
+-- the sides of the smaller rectangle are at most this much further in
+pub record IsShrunk (r : Rect) (margin : ℤ) (s : Rect) : Type 0 where
+  pub left : s.x0 ≤ℤ (r.x0 +ℤ margin)
+  pub below : s.y0 ≤ℤ (r.y0 +ℤ margin)
+  pub right : (r.x1 -ℤ margin) ≤ℤ s.x1
+  pub above : (r.y1 -ℤ margin) ≤ℤ s.y1
+
 abbrev pub is_met : List Fragment → Rect → ℕ → Bool
 is_met fs rect k = reaches (area_of (fragment_at fs k)) rect
 

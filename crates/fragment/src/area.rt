@@ -1,6 +1,6 @@
 //! Areas of the plane: x from `x0` to `x1` and y from `y0` to `y1`, both included.
-ghost use Rattle.std.specs.Prelude.{◌≡◌, ◌+◌, ◌*◌, ◌<◌, ◌≤◌, ℕ, All, IfOk, length};
-ghost use Rattle.fragment.specs.Index.{AreEnclosed, IsInside, area_at, area_of, areas_of, reaches};
+ghost use Rattle.std.specs.Prelude.{◌≡◌, ◌+◌, ◌*◌, ◌<◌, ◌≤◌, ◌≤ℤ◌, ◌+ℤ◌, ◌-ℤ◌, ℕ, pos, All, IfOk, length};
+ghost use Rattle.fragment.specs.Index.{AreEnclosed, IsInside, IsShrunk, area_at, area_of, areas_of, reaches};
 ghost use Rattle.outline_model.specs.Limits.{IsPlacedFragment};
 
 use opc_base::{NoMemory, Rect};
@@ -8,7 +8,7 @@ use outline_model::{Fragment, is_vertical};
 use std::alloc::Global;
 
 /// How far around a fragment's piece on the target its moves can matter, in pixels.
-const REACH: i32 = 128;
+pub const REACH: i32 = 128;
 
 /// The areas that have one area round them.
 pub const BLOCK: usize = 16;
@@ -40,6 +40,46 @@ pub fn reaches(area: &Rect, rect: &Rect) -> bool
     ensures { result ≡ reaches area.now rect.now }
 {
     (rect.x0 <= area.x1) & (area.x0 < rect.x1) & (rect.y0 <= area.y1) & (area.y0 < rect.y1)
+}
+
+/// The rectangle, smaller by a margin on each side. Where it is less wide than two margins, its sides change places.
+pub fn shrunk(rect: &Rect, margin: i32) -> Rect
+    requires least { pos 0 ≤ℤ margin }
+    requires most { margin ≤ℤ pos 128 }
+    ensures { IsShrunk rect.now margin result }
+{
+    Rect {
+        x0: raised(rect.x0, margin),
+        y0: raised(rect.y0, margin),
+        x1: lowered(rect.x1, margin),
+        y1: lowered(rect.y1, margin),
+    }
+}
+
+/// The number with the margin added, or itself where that would not fit.
+fn raised(place: i32, margin: i32) -> i32
+    requires least { pos 0 ≤ℤ margin }
+    requires most { margin ≤ℤ pos 128 }
+    ensures { result ≤ℤ (place +ℤ margin) }
+{
+    if place <= i32::MAX - REACH {
+        place + margin
+    } else {
+        place
+    }
+}
+
+/// The number with the margin taken away, or itself where that would not fit.
+fn lowered(place: i32, margin: i32) -> i32
+    requires least { pos 0 ≤ℤ margin }
+    requires most { margin ≤ℤ pos 128 }
+    ensures { (place -ℤ margin) ≤ℤ result }
+{
+    if place >= i32::MIN + REACH {
+        place - margin
+    } else {
+        place
+    }
 }
 
 /// The areas of these fragments.

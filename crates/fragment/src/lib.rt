@@ -18,6 +18,8 @@ mod fragments;
 mod near;
 mod region_cut;
 mod site;
+#[cfg(test)]
+mod tests;
 
 pub use cutting::{CutFault, MAX_FRAGMENTS};
 pub use fragments::Fragments;

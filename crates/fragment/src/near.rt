@@ -1,12 +1,12 @@
 //! Finds the fragments near a rectangle.
-ghost use Rattle.std.specs.Prelude.{◌≡◌, ◌+◌, ◌<◌, ◌≤◌, ℕ, ℤ, pos, All, Contains, IfOk, length, true};
+ghost use Rattle.std.specs.Prelude.{◌≡◌, ◌+◌, ◌<◌, ◌≤◌, ◌≤ℤ◌, ℕ, ℤ, pos, All, Contains, IfOk, length, true};
 ghost use Rattle.std.specs.List.Sorted.{IsStrictlyIncreasing};
 ghost use Rattle.fragment.specs.Index.{IsFirstMet, NoneMet, is_met, met_from};
 ghost use Rattle.opc_base.specs.Plane.{rect_cover};
 ghost use Rattle.outline_model.specs.Near.{IsWithinReach};
 ghost use Rattle.outline_model.specs.Outline.{fragment_at};
 
-use crate::area::{BLOCK, area_of, areas_of, enclose, reaches};
+use crate::area::{BLOCK, REACH, area_of, areas_of, enclose, reaches, shrunk};
 use crate::fragments::Fragments;
 use opc_base::{NoMemory, Rect};
 use outline_model::Fragment;
@@ -64,6 +64,26 @@ impl Near {
         Meets {
             near: self,
             rect: *rect,
+            from: 0,
+        }
+    }
+
+    /// The numbers of fragments whose piece on the target comes within `reach` pixels of the rectangle, in ascending order.
+    /// A fragment is no further from its piece than its offset, so this finds what is near where no offset is greater.
+    pub fn meets_within<'a>(&'a self, rect: &Rect, reach: i32) -> Meets<'a>
+        requires least { pos 0 ≤ℤ reach }
+        requires most { reach ≤ℤ pos 128 }
+        ensures ascending { IsStrictlyIncreasing result }
+        ensures below { All (λ k. k < length self.now) result }
+        ensures complete { (k : ℕ) (x y : ℤ) → k < length self.now → rect_cover rect.now x y ≡ true
+            → IsWithinReach (fragment_at self.now k) reach x y → Contains result k }
+        ensures few { length self.now ≤ 32768 }
+    {
+        let _ = self.count();
+        let rect = shrunk(rect, REACH - reach);
+        Meets {
+            near: self,
+            rect,
             from: 0,
         }
     }

@@ -3,3 +3,4 @@ pub mod PlacementLemmas
 pub mod PointLemmas
 pub mod WalkLemmas
 pub mod OutlineLemmas
+pub mod PlanLaws

@@ -1,11 +1,11 @@
 -- A walk over the chains of references, with a list of tasks.
-use Rattle.std.proofs.Common.{◌≡◌, ℕ, zero, suc, ◌+◌, ◌-◌, ◌*◌, ◌^◌, ◌<◌, ◌≤◌, pos, false, List, [], ◌∷◌, ◌++◌, length, drop, map, get_or, Contains, Vec, Bor, refl, ap, ap₂, sym, ◌∙◌, subst, arith, append_assoc}
+use Rattle.std.proofs.Common.{◌≡◌, ℕ, zero, suc, ◌+◌, ◌-◌, ◌*◌, ◌^◌, ◌<◌, ◌≤◌, pos, false, List, [], ◌∷◌, ◌++◌, length, drop, map, get_or, Contains, All, Vec, Bor, refl, ap, ap₂, sym, ◌∙◌, subst, arith, append_assoc}
 use Rattle.std.specs.List.{flat_map}
 use Rattle.std.specs.declared.alloc.Global.{Global}
 use Rattle.std.proofs.Math.Path.{fun_ext}
 use Rattle.std.proofs.lemmas.Int.{ints}
 use Rattle.std.proofs.lemmas.List.{append-nil, at_drop_more, drop_all, map-append, map_push, length-append}
-use Rattle.std.proofs.lemmas.List.Elements.{Contains-get_or}
+use Rattle.std.proofs.lemmas.List.Elements.{All-nil, All-push, All-weaker, Contains-get_or}
 use Rattle.gds_model.specs.declared.position.Position.{Position}
 use Rattle.gds_model.specs.declared.shape.Shape.{Shape as ShapeRead}
 use Rattle.gds_expand.specs.declared.placement.Placement.{Placement}
@@ -22,9 +22,9 @@ use Rattle.gds_expand.specs.Steps.{Plan, steps_of, step_places, plan_places, IsR
 -- ---- depths
 
 -- what a step gives rests on what its structure gives
-record Respects {B : Type 0} (f : (ℕ → List B) → Step → List B) : Type 0 where
-  shape : (inner inner' : ℕ → List B) (x : Bor ShapeRead) → f inner (Shape x) ≡ f inner' (Shape x)
-  copy : (inner inner' : ℕ → List B) (t : ℕ) (m : Placement) → inner t ≡ inner' t → f inner (Copy t m) ≡ f inner' (Copy t m)
+pub record Respects {B : Type 0} (f : (ℕ → List B) → Step → List B) : Type 0 where
+  pub shape : (inner inner' : ℕ → List B) (x : Bor ShapeRead) → f inner (Shape x) ≡ f inner' (Shape x)
+  pub copy : (inner inner' : ℕ → List B) (t : ℕ) (m : Placement) → inner t ≡ inner' t → f inner (Copy t m) ≡ f inner' (Copy t m)
 
 flat_map-same : {B : Type 0} (f h : Step → List B) (steps : List Step) → ((step : Step) → Contains steps step → f step ≡ h step) →
     flat_map f steps ≡ flat_map h steps
@@ -35,7 +35,7 @@ flat_map-same f h (step ∷ steps) same =
     in_rest : (s : Step) → Contains steps s → Contains (step ∷ steps) s
     in_rest s (k, below, e) = (suc k, omega arith, e)
 
-steps_same : {B : Type 0} (f : (ℕ → List B) → Step → List B) → Respects f → (inner inner' : ℕ → List B) (steps : List Step) →
+pub steps_same : {B : Type 0} (f : (ℕ → List B) → Step → List B) → Respects f → (inner inner' : ℕ → List B) (steps : List Step) →
     ((t : ℕ) (m : Placement) → Contains steps (Copy t m) → inner t ≡ inner' t) → flat_map (f inner) steps ≡ flat_map (f inner') steps
 steps_same f r inner inner' steps same = flat_map-same (f inner) (f inner') steps each
   where
@@ -66,10 +66,10 @@ fixed f r plan rank ranked F next d s below =
     let lower : rank t < rank s = ranked.lower s t m there in
     depth_same f r plan rank ranked F next d (suc d) t (omega arith) (omega arith))
 
-step_places-respects : Respects step_places
+pub step_places-respects : Respects step_places
 step_places-respects = record { shape = λ inner inner' x. refl; copy = λ inner inner' t m e. ap (moved (placed m)) e }
 
-plan_places-next : (plan : Plan) (depth s : ℕ) → plan_places plan (suc depth) s ≡ flat_map (step_places (plan_places plan depth)) (steps_of plan s)
+pub plan_places-next : (plan : Plan) (depth s : ℕ) → plan_places plan (suc depth) s ≡ flat_map (step_places (plan_places plan depth)) (steps_of plan s)
 unfolding plan_places
 plan_places-next plan depth s = refl
 
@@ -130,7 +130,7 @@ left_of-push plan depth (x ∷ ts) t =
 
 -- ---- maps
 
-moved-moved : (f g h : Position → Position) (xs : List Mapped) → ((p : Position) → h p ≡ f (g p)) → moved h xs ≡ moved f (moved g xs)
+pub moved-moved : (f g h : Position → Position) (xs : List Mapped) → ((p : Position) → h p ≡ f (g p)) → moved h xs ≡ moved f (moved g xs)
 moved-moved f g h [] e = refl
 moved-moved f g h (x ∷ xs) e = ap₂ (λ y ys. y ∷ ys) (ap (λ k. let y : Mapped = (x.0, k) in y) (fun_ext (λ p. e (x.1 p)))) (moved-moved f g h xs e)
 
@@ -162,6 +162,7 @@ ArePlacing-pop plan rank top (x ∷ ts) t h = let both = ArePlacing-pop plan ran
 pub record IsWalking (plan : Plan) (rank : ℕ → ℕ) (top : ℕ) (out : List PlacedShape) (tasks : List Task) : Type 0 where
   pub made : map mapped out ++ left_of plan (suc (rank top)) tasks ≡ plan_places plan (suc (rank top)) top
   pub placing : ArePlacing plan rank top tasks
+  pub near : All (λ x. IsWithin (rank top * 2 ^ 34) x.placement.shift) out
 
 -- ---- the turns
 
@@ -227,6 +228,7 @@ ends_task plan rank top s next m out ts past h =
     record {
       made = ap (λ xs. map mapped out ++ xs) (sym (left_of-push plan depth ts (task s next m) ∙ ap (λ xs. xs ++ left_of plan depth ts) nothing)) ∙ h.made;
       placing = (ArePlacing-pop plan rank top ts (task s next m) h.placing).0;
+      near = h.near;
     }
 
 -- a shape is placed
@@ -246,6 +248,8 @@ places_shape plan rank top s next x m out ts on h =
           ∙ ap (λ xs. map mapped out ++ xs) (sym (left_of-push plan depth ts (task s next m) ∙ ap (λ xs. xs ++ left) (rest_of-step plan depth s next m (Shape x) on)))
           ∙ h.made;
       placing = ArePlacing-push plan rank top ts (task s (next + 1) m) popped.0 (IsPlacing-next plan rank top s next m popped.1);
+      near = All-push (λ x. IsWithin (rank top * 2 ^ 34) x.placement.shift) out (placed_shape x m) h.near
+          (let small : (rank top - rank s) * 2 ^ 34 ≤ rank top * 2 ^ 34 = omega arith in IsWithin-le _ _ m.shift small popped.1.near);
     }
 
 -- a copy is entered
@@ -282,6 +286,7 @@ enters_copy plan rank top s next t m inner both out ts ranked on composed bound 
             lower = low';
             near = IsWithin-le _ _ both.shift grows (bound _ _ popped.1.near (ranked.near s t inner on.there));
           });
+      near = h.near;
     }
 
 -- ---- the measure falls
@@ -328,6 +333,7 @@ starts_walk plan rank top m ranked there still = record {
     }),
     tt,
   );
+  near = All-nil (λ x. IsWithin (rank top * 2 ^ 34) x.placement.shift);
 }
 
 pub ends_walk : (plan : Plan) (rank : ℕ → ℕ) (top : ℕ) (out : List PlacedShape) (depth : ℕ) → IsRanked plan rank → rank top < depth →
@@ -361,3 +367,9 @@ pub starts_walk_from : (plan : Plan) (rank : ℕ → ℕ) (top : ℕ) (m : Place
     tasks ≡ none ++ task top 0 m ∷ [] → IsRanked plan rank → top < length plan → unmoved m → IsWalking plan rank top out tasks
 starts_walk_from plan rank top m out none tasks no_shape no_task is ranked there still =
     rw (no_shape, is, no_task) (starts_walk plan rank top m ranked there still)
+
+pub ends_near : (rank : ℕ → ℕ) (top : ℕ) (out : List PlacedShape) → rank top < 2 ^ 16 → All (λ x. IsWithin (rank top * 2 ^ 34) x.placement.shift) out →
+    All (λ x. IsWithin (2 ^ 50) x.placement.shift) out
+ends_near rank top out deep h =
+    let small : rank top * 2 ^ 34 ≤ 2 ^ 50 = omega arith in
+    All-weaker (λ x. IsWithin (rank top * 2 ^ 34) x.placement.shift) (λ x. IsWithin (2 ^ 50) x.placement.shift) (λ x near. IsWithin-le _ _ x.placement.shift small near) out h

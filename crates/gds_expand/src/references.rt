@@ -74,7 +74,7 @@ fn are_steps(count: &Count, displacement: &Position) -> bool
 }
 
 /// What is wrong with a reference that names a structure.
-fn own_fault(reference: &Reference) -> Option<PlaceFault>
+pub fn own_fault(reference: &Reference) -> Option<PlaceFault>
     ensures { result ≡ own_fault reference.now }
 {
     let offset = reference.offset;

@@ -376,7 +376,11 @@ fn form_in(kind: &ShapeKind) -> Option<PathForm>
 }
 
 /// A placed shape in pixels of the chosen grid, or what is wrong with it.
-fn outline_of(alloc: Global, pick: &Pick, placed: &PlacedShape) -> Result<Outline, PlaceFault>
+pub(crate) fn outline_of(
+    alloc: Global,
+    pick: &Pick,
+    placed: &PlacedShape,
+) -> Result<Outline, PlaceFault>
     requires { IsWithin (2 ^ 50) placed.now.placement.shift }
     ensures right { IfOk result (λ outline. shape_fault pick.now.grid (mapped placed.now) ≡ None) }
     ensures outline { IfOk result (λ outline. outline ≡ outline_of pick.now.grid (mapped placed.now)) }

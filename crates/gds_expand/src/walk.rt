@@ -1,6 +1,7 @@
 //! The shapes that a structure places, without recursion.
 
-ghost use Rattle.std.specs.Prelude.{◌≡◌, ℕ, ◌^◌, ◌<◌, length, map, IfOk};
+ghost use Rattle.std.specs.Prelude.{◌≡◌, ℕ, ◌^◌, ◌<◌, length, map, All, IfOk};
+ghost use Rattle.gds_model.specs.Placement.{IsWithin};
 ghost use Rattle.gds_expand.specs.Steps.{IsRanked, mapped, plan_places};
 
 use crate::placement::Placement;
@@ -41,7 +42,8 @@ pub fn placed_shapes<'a>(
     requires depth { rank top < 2 ^ 16 }
 
     // at every depth that reaches the last chain
-    ensures { IfOk result (λ shapes. (depth : ℕ) → rank top < depth → map mapped shapes.items ≡ plan_places plan.now depth top) }
+    ensures placed { IfOk result (λ shapes. (depth : ℕ) → rank top < depth → map mapped shapes.items ≡ plan_places plan.now depth top) }
+    ensures near { IfOk result (λ shapes. All (λ x. IsWithin (2 ^ 50) x.placement.shift) shapes.items) }
 {
     let mut shapes = Vec::new(alloc);
     let mut tasks = Vec::new(alloc);

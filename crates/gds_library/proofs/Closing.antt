@@ -1,22 +1,20 @@
 -- The element that is being read: what a further record changes, and what it comes to.
-use Rattle.std.proofs.Common.{◌≡◌, ◌≢◌, ℕ, ◌==◌, ◌||◌, Bool, true, false, cond, refl, Option, Some, None, List, [], ◌∷◌, ◌++◌, ap, sym, ◌∙◌, inl, inr, arith}
+use Rattle.std.proofs.Common.{◌≡◌, ◌≢◌, ℕ, ◌==◌, Bool, true, false, cond, refl, Option, Some, None, List, [], ◌∷◌, ◌++◌, ap, sym, ◌∙◌, inl, inr}
 use Rattle.std.specs.Option.{option_map, unwrap_or}
 use Rattle.std.specs.Prelude.{nat_le, slice_index}
-use Rattle.std.proofs.lemmas.Bool.{cases_Bool, true≢false, or_parts}
+use Rattle.std.proofs.lemmas.Bool.{cases_Bool, or_parts}
 use Rattle.std.proofs.lemmas.List.Sums.{fold-append}
 use Rattle.std.proofs.Math.Bool.{or-false}
 use Rattle.gds_records.specs.Records.{StreamRecord}
 use Rattle.gds_records.specs.Numbers.{two_bytes, signed_two, signed_four}
 use Rattle.gds_model.specs.declared.record_kind.RecordKind.{RecordKind}
 use Rattle.gds_model.specs.declared.record_kind.RecordKind.TheVariants as kinds
-use Rattle.gds_model.specs.declared.shape.ShapeKind.{ShapeKind}
 use Rattle.gds_model.specs.declared.shape.ShapeKind.TheVariants as shape_kind
 use Rattle.gds_model.specs.declared.elements.Element.{Element}
 use Rattle.gds_model.specs.declared.elements.Element.TheVariants as element
 use Rattle.gds_model.specs.RecordKind.{code_of}
-use Rattle.gds_model.specs.Names.{name_of}
 use Rattle.gds_model.specs.Body.{element_code, element_kinds, is_one_of}
-use Rattle.gds_model.specs.Elements.{body_of, bytes_of, unsigned_of, signed_two_of, signed_four_of, points_in, grid_in, path_kind, shape_of, reference_of, elements_in}
+use Rattle.gds_model.specs.Elements.{body_of, grid_in, path_kind, shape_of, reference_of, elements_in}
 use Rattle.gds_library.specs.declared.open_element.OpenElement.{OpenElement}
 use Rattle.gds_library.specs.OpenElement.{first_element, first_offset, Holds, Takes}
 

@@ -9,3 +9,4 @@ pub mod Gathering
 pub mod Drafting
 pub mod Reading
 pub mod ReadAnswers
+pub mod OneLibrary

@@ -48,7 +48,7 @@ texts-insert_key keys value name same another =
 -- the first key with a name has it
 first_named-step : (b : Bool) (name : List ℕ) (key : Vec ℕ) (keys : List (Vec ℕ)) → pointwise nat_eq name key.items ≡ b
     → (position_or_len (λ x. pointwise nat_eq name x.items) keys < length keys
-        → slice_get (texts keys) (position_or_len (λ x. pointwise nat_eq name x.items) keys) ≡ Some name)
+    → slice_get (texts keys) (position_or_len (λ x. pointwise nat_eq name x.items) keys) ≡ Some name)
     → cond (not b) (suc (position_or_len (λ x. pointwise nat_eq name x.items) keys)) 0 < suc (length keys)
     → slice_get (texts (key ∷ keys)) (cond (not b) (suc (position_or_len (λ x. pointwise nat_eq name x.items) keys)) 0) ≡ Some name
 first_named-step true name key keys test rest within = ap (λ n. Some n) (sym (same_text name key.items (sym test)))

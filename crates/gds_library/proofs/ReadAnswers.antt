@@ -1,5 +1,5 @@
 -- From what a read answers to when it must answer so.
-use Rattle.std.proofs.Common.{◌≡◌, ℕ, refl, List, ◌⊎◌, inl, inr, ap, sym, ◌∙◌, subst}
+use Rattle.std.proofs.Common.{◌≡◌, ℕ, refl, List, ◌⊎◌, inl, inr, ap}
 use Rattle.std.specs.Prelude.{Result, Ok, Err, IfOk, IfErr, IsOk, IsErrOf}
 use Rattle.gds_model.specs.declared.layout_fault.LayoutFault.{LayoutFault}
 use Rattle.gds_model.specs.declared.layout_fault.LayoutFault.TheVariants.{NoMemory}

@@ -1,5 +1,5 @@
 -- What a reader has gathered between two records.
-use Rattle.std.specs.Prelude.{◌≡◌, ℕ, ◌==◌, List, [], ◌∷◌, ◌++◌, if◌then◌else◌}
+use Rattle.std.specs.Prelude.{ℕ, ◌==◌, List, [], ◌∷◌, ◌++◌, if◌then◌else◌}
 use Rattle.gds_records.specs.Records.{StreamRecord}
 use Rattle.gds_records.specs.declared.library_head.Head.{Head}
 use Rattle.gds_model.specs.declared.record_kind.RecordKind.{RecordKind}

@@ -1,5 +1,5 @@
 -- The element that is being read, as its records have it.
-use Rattle.std.specs.Prelude.{◌≡◌, ℕ, ◌==◌, nat_le, true, Bool, Option, Some, List, [], ◌∷◌, length, slice_index, if◌then◌else◌}
+use Rattle.std.specs.Prelude.{◌≡◌, ℕ, ◌==◌, nat_le, true, Bool, Some, List, [], ◌∷◌, length, slice_index, if◌then◌else◌}
 use Rattle.std.specs.Option.{option_map}
 use Rattle.gds_records.specs.Records.{StreamRecord}
 use Rattle.gds_model.specs.declared.record_kind.RecordKind.TheVariants as kinds

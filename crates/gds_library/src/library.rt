@@ -35,7 +35,11 @@ impl Library {
     ghost use Rattle.gds_library.specs.Texts.{texts};
 
     /// The library with this head and these structures, whose names are those of the set.
-    pub(crate) fn from_parts(head: Head, structures: Vec<Structure>, set: IndexSet<Vec<u8>>) -> Library
+    pub(crate) fn from_parts(
+        head: Head,
+        structures: Vec<Structure>,
+        set: IndexSet<Vec<u8>>,
+    ) -> Library
         requires layout { IsLayout (record { head = head; structures = structures.items }) }
         requires named { texts set.keys ≡ names structures.items }
         ensures { result ≡ record { head = head; structures = structures.items } }

@@ -134,11 +134,11 @@ impl<'a> OpenElement<'a> {
 
     fn shape(&self, alloc: Global, kind: ShapeKind, datatype: u16) -> Result<Shape, NoMemory>
         ensures { IfOk result (λ shape. shape ≡ record {
-            offset = self.now.offset;
-            kind = kind;
-            layer = self.now.layer;
-            datatype = datatype;
-            points = points_in self.now.points.now
+          offset = self.now.offset;
+          kind = kind;
+          layer = self.now.layer;
+          datatype = datatype;
+          points = points_in self.now.points.now;
         }) }
     {
         Ok(Shape {
@@ -152,13 +152,13 @@ impl<'a> OpenElement<'a> {
 
     fn reference(&self, alloc: Global) -> Result<Reference, NoMemory>
         ensures { IfOk result (λ reference. reference ≡ record {
-            offset = self.now.offset;
-            name = name_of self.now.name.now;
-            flip = self.now.flip;
-            mag = self.now.mag;
-            angle = self.now.angle;
-            array = self.now.array;
-            points = points_in self.now.points.now
+          offset = self.now.offset;
+          name = name_of self.now.name.now;
+          flip = self.now.flip;
+          mag = self.now.mag;
+          angle = self.now.angle;
+          array = self.now.array;
+          points = points_in self.now.points.now;
         }) }
     {
         let name = Name::from_vec(name_in(self.name).to_vec(alloc)?);

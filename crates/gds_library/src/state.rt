@@ -1,3 +1,4 @@
+//! The state machine that follows the grammar.
 ghost use Rattle.std.specs.Prelude.{◌≡◌, ◌==◌, IfSome, IsTrue};
 ghost use Rattle.gds_records.specs.Records.{ENDLIB};
 ghost use Rattle.gds_model.specs.RecordKind.{code_of};
@@ -6,70 +7,132 @@ ghost use Rattle.gds_library.specs.State.{rest_of, rest_after};
 
 use gds_model::RecordKind;
 
-/// Where a reader stands: named by the record that was read last, or by what comes next.
+/// Where a reader stands in the grammar of a stream file: named by the record that was read last, or by what comes next.
 #[derive(Clone, Copy, Debug, PartialEq, Eq)]
 pub enum State {
+    /// Nothing has been read.
     Start,
+    /// HEADER has been read.
     Header,
+    /// BGNLIB has been read, and LIBNAME hasn't.
     BeforeName,
+    /// LIBNAME has been read, and UNITS hasn't.
     BeforeUnits,
+    /// UNITS or a whole structure has been read: a structure or ENDLIB comes.
     Structures,
+    /// A structure has begun, without its name.
     BgnStr,
+    /// A structure has its name: its class, an element or ENDSTR comes.
     StrName,
+    /// A structure has its class or a whole element: an element or ENDSTR comes.
     Elements,
+    /// A BOUNDARY has begun.
     Boundary,
+    /// In a BOUNDARY, ELFLAGS has been read last.
     BoundaryElFlags,
+    /// In a BOUNDARY, PLEX has been read last.
     BoundaryPlex,
+    /// In a BOUNDARY, LAYER has been read last.
     BoundaryLayer,
+    /// In a BOUNDARY, DATATYPE has been read last.
     BoundaryDatatype,
+    /// A PATH has begun.
     Path,
+    /// In a PATH, ELFLAGS has been read last.
     PathElFlags,
+    /// In a PATH, PLEX has been read last.
     PathPlex,
+    /// In a PATH, LAYER has been read last.
     PathLayer,
+    /// In a PATH, DATATYPE has been read last.
     PathDatatype,
+    /// In a PATH, PATHTYPE has been read last.
     PathPathType,
+    /// In a PATH, WIDTH has been read last.
     PathWidth,
+    /// In a PATH, BGNEXTN has been read last.
     PathBgnExtn,
+    /// In a PATH, ENDEXTN has been read last.
     PathEndExtn,
+    /// An SREF has begun.
     Sref,
+    /// In an SREF, ELFLAGS has been read last.
     SrefElFlags,
+    /// In an SREF, PLEX has been read last.
     SrefPlex,
+    /// In an SREF, SNAME has been read last.
     SrefSname,
+    /// In an SREF, STRANS has been read last.
     SrefStrans,
+    /// In an SREF, MAG has been read last.
     SrefMag,
+    /// In an SREF, ANGLE has been read last.
     SrefAngle,
+    /// An AREF has begun.
     Aref,
+    /// In an AREF, ELFLAGS has been read last.
     ArefElFlags,
+    /// In an AREF, PLEX has been read last.
     ArefPlex,
+    /// In an AREF, SNAME has been read last.
     ArefSname,
+    /// In an AREF, STRANS has been read last.
     ArefStrans,
+    /// In an AREF, MAG has been read last.
     ArefMag,
+    /// In an AREF, ANGLE has been read last.
     ArefAngle,
+    /// In an AREF, COLROW has been read last.
     ArefColRow,
+    /// A TEXT has begun.
     Text,
+    /// In a TEXT, ELFLAGS has been read last.
     TextElFlags,
+    /// In a TEXT, PLEX has been read last.
     TextPlex,
+    /// In a TEXT, LAYER has been read last.
     TextLayer,
+    /// In a TEXT, TEXTTYPE has been read last.
     TextTextType,
+    /// In a TEXT, PRESENTATION has been read last.
     TextPresentation,
+    /// In a TEXT, PATHTYPE has been read last.
     TextPathType,
+    /// In a TEXT, WIDTH has been read last.
     TextWidth,
+    /// In a TEXT, STRANS has been read last.
     TextStrans,
+    /// In a TEXT, MAG has been read last.
     TextMag,
+    /// In a TEXT, ANGLE has been read last.
     TextAngle,
+    /// In a TEXT, XY has been read last.
     TextXy,
+    /// A NODE has begun.
     Node,
+    /// In a NODE, ELFLAGS has been read last.
     NodeElFlags,
+    /// In a NODE, PLEX has been read last.
     NodePlex,
+    /// In a NODE, LAYER has been read last.
     NodeLayer,
+    /// In a NODE, NODETYPE has been read last.
     NodeNodeType,
+    /// A BOX has begun.
     Box,
+    /// In a BOX, ELFLAGS has been read last.
     BoxElFlags,
+    /// In a BOX, PLEX has been read last.
     BoxPlex,
+    /// In a BOX, LAYER has been read last.
     BoxLayer,
+    /// In a BOX, BOXTYPE has been read last.
     BoxBoxType,
+    /// An element is whole but for properties and ENDEL.
     Properties,
+    /// A property has its attribute, without its value.
     PropAttr,
+    /// ENDLIB has been read.
     End,
 }
 

@@ -27,8 +27,8 @@
 
 mod elements;
 mod layout_fault;
-mod points;
 mod place_fault;
+mod points;
 mod position;
 mod record_kind;
 mod reference;
@@ -36,8 +36,8 @@ mod shape;
 
 pub use elements::{Element, Elements, Structure};
 pub use layout_fault::LayoutFault;
-pub use points::Points;
 pub use place_fault::PlaceFault;
+pub use points::Points;
 pub use position::{Direction, DoubledRect, PathForm, Position};
 pub use record_kind::RecordKind;
 pub use reference::{Grid, Reference};

@@ -1,3 +1,4 @@
+mod AmplitudeLaws
 mod CornerSums
 mod PowerSums
 mod RectLaws

@@ -1,13 +1,13 @@
 -- Intensities of lanes: bounds, and the sum over kernels.
-use Rattle.std.proofs.Common.{◌≡◌, ℕ, zero, suc, ◌+◌, ◌*◌, ◌<◌, ◌≤◌, ℤ, pos, ◌+ℤ◌, ◌*ℤ◌, ◌≤ℤ◌, unsigned_abs, List, [], ◌∷◌, All, Some, slice_get, length, get_or, take, map, refl, ap, ap₂, ◌∙◌, sym, arith, mul-le-mul, ⊎_elim, SFits, w64, add-one}
+use Rattle.std.proofs.Common.{◌≡◌, ℕ, zero, suc, ◌+◌, ◌*◌, ◌<◌, ◌≤◌, ℤ, pos, ◌+ℤ◌, ◌*ℤ◌, ◌≤ℤ◌, unsigned_abs, List, [], ◌∷◌, All, Some, slice_get, length, get_or, take, refl, ap, ap₂, ◌∙◌, sym, arith, mul-le-mul, ⊎_elim, SFits, w64, add-one}
 use Rattle.std.proofs.lemmas.Int.{ints, unsigned_abs-mul, fits_signed_mul}
 use Rattle.std.proofs.lemmas.List.{get_or-map}
 use Rattle.std.proofs.lemmas.List.Elements.{All-tail}
 use Rattle.std.proofs.lemmas.Option.{slice_get_cases}
-use Rattle.opc_base.specs.Lanes.{LanesAre, amplitude_of_lane, lane_count, weights_of}
+use Rattle.opc_base.specs.Lanes.{LanesAre, amplitude_of_lane, weights_of}
 use Rattle.opc_base.specs.Optics.{amplitude_im, amplitude_re, weighted_power}
 use Rattle.opc_base.specs.Plane.{PixelSet}
-use Rattle.opc_base.specs.Sums.{sum_each, sum_range}
+use Rattle.opc_base.specs.Sums.{sum_each}
 use Rattle.opc_base.specs.declared.kernels.Kernel.{Kernel}
 use Rattle.opc_base.specs.declared.kernels.KernelSet.{KernelSet}
 use Rattle.opc_base.proofs.LaneLaws.{amplitude_of_lane-im, amplitude_of_lane-re}

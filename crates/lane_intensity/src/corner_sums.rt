@@ -32,8 +32,10 @@ pub fn add_corners<L: Ledger>(
 
     // from the ground on, the amplitudes of that set
     ensures amplitudes { (pixels : PixelSet) → AddUpNear tables.now.reach corners.now pixels at.x at.y → LanesAre tables.now (ground_of_lane tables.now) acc.old → LanesAre tables.now (amplitude_of_lane tables.now pixels at.x at.y) acc.new }
+    ensures small { (pixels : PixelSet) → AddUpNear tables.now.reach corners.now pixels at.x at.y → LanesAre tables.now (ground_of_lane tables.now) acc.old → AreLanes (lane_count tables.now) 34080768 acc.new }
     ensures cost { steps.new ≡ steps.old + length corners.now }
 {
+    prove!(acc.len() == tables.lanes());
     for corner in corners {
         add_corner(acc, tables, at, *corner, steps);
     }

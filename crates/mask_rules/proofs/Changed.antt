@@ -9,9 +9,9 @@ use Rattle.opc_base.specs.declared.plane.Side.TheVariants.{Left, Right, Down, Up
 use Rattle.outline_model.specs.declared.fragment.Join.{Join}
 use Rattle.outline_model.specs.declared.fragment.Join.TheVariants.{Cut, Corner}
 use Rattle.outline_model.specs.declared.fragment.Fragment.{Fragment}
-use Rattle.outline_model.specs.Limits.{IsFragmentList, IsOffsets}
-use Rattle.outline_model.specs.Ranges.{IsWithin}
+use Rattle.outline_model.specs.Limits.{IsFragmentList}
 use Rattle.outline_model.specs.Near.{IsWithinReach, KeepNear}
+use Rattle.mask_rules.specs.Placements.{IsNearOffset}
 use Rattle.outline_model.specs.Outline.{IsOutline, DiffersOnlyAt, fragment_at, side_of, outward, lines, end_at, start_join, start_place, finish_join, finish_place, joined, next, previous}
 use Rattle.outline_model.proofs.Walk.{stands, previous_of_next}
 use Rattle.outline_model.proofs.RuleLocality.{start_as_before, finish_as_before}
@@ -56,41 +56,44 @@ stretch-same fs line line' i k v outline others below not_before not_it not_afte
 
 -- ---- near the target
 
-pub stretch_within : (fs : List Fragment) (line : ℕ → ℤ) (v : Bool) (k : ℕ) (t : ℤ) → IsFragmentList fs → KeepNear fs line (pos 128) → k < length fs
+pub stretch_within : (fs : List Fragment) (line : ℕ → ℤ) (reach : ℤ) (v : Bool) (k : ℕ) (t : ℤ) → IsFragmentList fs → pos 0 ≤ℤ reach → KeepNear fs line reach → k < length fs
     → Spans (stretch_at fs line v k) t
-    → IsWithinReach (fragment_at fs k) (pos 128) (pixel_at v (stretch_at fs line v k).at t).x (pixel_at v (stretch_at fs line v k).at t).y
-stretch_within fs line true k t fragments near below spans =
+    → IsWithinReach (fragment_at fs k) reach (pixel_at v (stretch_at fs line v k).at t).x (pixel_at v (stretch_at fs line v k).at t).y
+stretch_within fs line reach true k t fragments least near below spans =
     let some = fragments.some k below in
-    vertical_within fs line (pos 128) k (stretch_at fs line true k).at t fragments.outline near (omega (arith, ints)) below (omega (arith, ints))
+    vertical_within fs line reach k (stretch_at fs line true k).at t fragments.outline near least below (omega (arith, ints))
     (elim (upright_piece fs line k t spans) [ inl h ↦ inl h.1 | inr h ↦ inr h.1 ])
-stretch_within fs line false k t fragments near below spans =
+stretch_within fs line reach false k t fragments least near below spans =
     let some = fragments.some k below in
-    horizontal_within fs line (pos 128) k t (stretch_at fs line false k).at fragments.outline near (omega (arith, ints)) below (omega (arith, ints))
+    horizontal_within fs line reach k t (stretch_at fs line false k).at fragments.outline near least below (omega (arith, ints))
     (elim (level_piece fs line k t spans) [ inl h ↦ inl h.1 | inr h ↦ inr h.1 ])
 
-outward_near : (side : Side) (edge o : ℤ) → IsWithin 128 o
-    → ((edge -ℤ pos 128) ≤ℤ (edge +ℤ outward side o)) × ((edge +ℤ outward side o) ≤ℤ (edge +ℤ pos 128))
-outward_near Left edge o within = let a = within.0 in let b = within.1 in (omega (arith, ints), omega (arith, ints))
-outward_near Right edge o within = let a = within.0 in let b = within.1 in (omega (arith, ints), omega (arith, ints))
-outward_near Down edge o within = let a = within.0 in let b = within.1 in (omega (arith, ints), omega (arith, ints))
-outward_near Up edge o within = let a = within.0 in let b = within.1 in (omega (arith, ints), omega (arith, ints))
+outward_near : (reach : ℤ) (side : Side) (edge o : ℤ) → IsNearOffset reach o
+    → ((edge -ℤ reach) ≤ℤ (edge +ℤ outward side o)) × ((edge +ℤ outward side o) ≤ℤ (edge +ℤ reach))
+outward_near reach Left edge o within = let a = within.0 in let b = within.1 in (omega (arith, ints), omega (arith, ints))
+outward_near reach Right edge o within = let a = within.0 in let b = within.1 in (omega (arith, ints), omega (arith, ints))
+outward_near reach Down edge o within = let a = within.0 in let b = within.1 in (omega (arith, ints), omega (arith, ints))
+outward_near reach Up edge o within = let a = within.0 in let b = within.1 in (omega (arith, ints), omega (arith, ints))
 
-offset_within : (fs : List Fragment) (offsets : List ℤ) (i : ℕ) (to : ℤ) → IsOffsets fs offsets → i < length fs → IsWithin 128 to
-    → (k : ℕ) → IsWithin 128 (get_or (set offsets i to) k (pos 0))
-offset_within fs offsets i to within below to_within k = elim (eqb_tells k i) [
+offset_within : (fs : List Fragment) (offsets : List ℤ) (i : ℕ) (to reach : ℤ) → length offsets ≡ length fs → i < length fs → pos 0 ≤ℤ reach
+    → ((k : ℕ) → k < length fs → IsNearOffset reach (get_or offsets k (pos 0))) → IsNearOffset reach to
+    → (k : ℕ) → IsNearOffset reach (get_or (set offsets i to) k (pos 0))
+offset_within fs offsets i to reach one_each below least near to_near k = elim (eqb_tells k i) [
   | inl w ↦
-      let inside : i < length offsets = subst (λ n. i < n) (sym within.one_each) below in
-      subst (λ o. IsWithin 128 o) (sym (get_or-set_same {A = ℤ} offsets i to (pos 0) inside) ∙ ap (λ m. get_or (set offsets i to) m (pos 0)) (sym w.1)) to_within
-  | inr w ↦ subst (λ o. IsWithin 128 o) (sym (get_or-set_other {A = ℤ} offsets i k to (pos 0) w.1)) (by (nat_lt k (length fs)) refl)
+      let inside : i < length offsets = subst (λ n. i < n) (sym one_each) below in
+      subst (IsNearOffset reach) (sym (get_or-set_same {A = ℤ} offsets i to (pos 0) inside) ∙ ap (λ m. get_or (set offsets i to) m (pos 0)) (sym w.1)) to_near
+  | inr w ↦ subst (IsNearOffset reach) (sym (get_or-set_other {A = ℤ} offsets i k to (pos 0) w.1)) (by (nat_lt k (length fs)) refl)
 ]
   where
-    by : (t : Bool) → nat_lt k (length fs) ≡ t → IsWithin 128 (get_or offsets k (pos 0))
-    by true e = within.within k (ltb-true k (length fs) e)
+    by : (t : Bool) → nat_lt k (length fs) ≡ t → IsNearOffset reach (get_or offsets k (pos 0))
+    by true e = near k (ltb-true k (length fs) e)
     by false e =
-        let past : length offsets ≤ k = subst (λ n. n ≤ k) (sym within.one_each) (ltb-false k (length fs) e) in
-        subst (λ o. IsWithin 128 o) (sym (get_or_past offsets k (pos 0) past)) (omega (arith, ints), omega (arith, ints))
+        let past : length offsets ≤ k = subst (λ n. n ≤ k) (sym one_each) (ltb-false k (length fs) e) in
+        subst (IsNearOffset reach) (sym (get_or_past offsets k (pos 0) past)) (omega (arith, ints), omega (arith, ints))
 
-pub keep_near : (fs : List Fragment) (offsets : List ℤ) (i : ℕ) (to : ℤ) → IsOffsets fs offsets → i < length fs → IsWithin 128 to
-    → KeepNear fs (lines fs (set offsets i to)) (pos 128)
-keep_near fs offsets i to within below to_within k =
-    outward_near (side_of fs k) (fragment_at fs k).edge (get_or (set offsets i to) k (pos 0)) (offset_within fs offsets i to within below to_within k)
+pub keep_near : (fs : List Fragment) (offsets : List ℤ) (i : ℕ) (to reach : ℤ) → length offsets ≡ length fs → i < length fs → pos 0 ≤ℤ reach
+    → ((k : ℕ) → k < length fs → IsNearOffset reach (get_or offsets k (pos 0))) → IsNearOffset reach to
+    → KeepNear fs (lines fs (set offsets i to)) reach
+keep_near fs offsets i to reach one_each below least near to_near k =
+    outward_near reach (side_of fs k) (fragment_at fs k).edge (get_or (set offsets i to) k (pos 0))
+    (offset_within fs offsets i to reach one_each below least near to_near k)

@@ -109,22 +109,22 @@ pub reaching : (o : Option Pix) (q : Pix) → ReachesUpTo o q → (p : Pix) × (
 reaching None q h = absurd h
 reaching (Some p) q h = (p, refl, h)
 
--- what `Near::meets` gives for a rectangle
-pub record IsAllNear (fs : List Fragment) (r : Rect) (numbers : List ℕ) : Type 0 where
+-- what `Near::meets_within` gives for a rectangle
+pub record IsAllNear (fs : List Fragment) (reach : ℤ) (r : Rect) (numbers : List ℕ) : Type 0 where
   pub below : (k d : ℕ) → k < length numbers → get_or numbers k d < length fs
-  pub complete : (k : ℕ) (x y : ℤ) → k < length fs → rect_cover r x y ≡ true → IsWithinReach (fragment_at fs k) (pos 128) x y → Contains numbers k
+  pub complete : (k : ℕ) (x y : ℤ) → k < length fs → rect_cover r x y ≡ true → IsWithinReach (fragment_at fs k) reach x y → Contains numbers k
 
-pub contained_below : (fs : List Fragment) (r : Rect) (numbers : List ℕ) (k : ℕ) → IsAllNear fs r numbers → Contains numbers k → k < length fs
-contained_below fs r numbers k near at = subst (λ m. m < length fs) at.2 (near.below at.0 k at.1)
+pub contained_below : (fs : List Fragment) (reach : ℤ) (r : Rect) (numbers : List ℕ) (k : ℕ) → IsAllNear fs reach r numbers → Contains numbers k → k < length fs
+contained_below fs reach r numbers k near at = subst (λ m. m < length fs) at.2 (near.below at.0 k at.1)
 
-pub first_clash_is : (fs : List Fragment) (line : ℕ → ℤ) (clash : Clash) (v : Bool) (c : ℕ) (numbers : List ℕ)
-    → IsFragmentList fs → KeepNear fs line (pos 128) → IsClash clash → IsAllNear fs (around clash v (stretch_at fs line v c)) numbers
+pub first_clash_is : (fs : List Fragment) (line : ℕ → ℤ) (reach : ℤ) (clash : Clash) (v : Bool) (c : ℕ) (numbers : List ℕ)
+    → IsFragmentList fs → pos 0 ≤ℤ reach → KeepNear fs line reach → IsClash clash → IsAllNear fs reach (around clash v (stretch_at fs line v c)) numbers
     → IsFirst (ClashesOf fs line clash v c) (first_from (λ k. pair_pixel clash v (stretch_at fs line v c) (stretch_at fs line v k)) None numbers)
-first_clash_is fs line clash v c numbers fragments keep limits near =
+first_clash_is fs line reach clash v c numbers fragments least keep limits near =
     IsFirst-cover (λ p. (k : ℕ) × Contains numbers k × (pair_pixel clash v mine (stretch_at fs line v k) ≡ Some p)) _ _
     (λ p found. (
       found.0,
-      contained_below fs _ numbers found.0 near found.1,
+      contained_below fs reach _ numbers found.0 near found.1,
       (pair_first found.0).is_one p found.2,
     ))
     (λ q found.
@@ -144,7 +144,7 @@ first_clash_is fs line clash v c numbers fragments keep limits near =
 
     in_list : (k : ℕ) → k < length fs → StandsIn (around clash v mine) v (stretch_at fs line v k) → Contains numbers k
     in_list k below stands =
-        near.complete k _ _ below stands.2 (stretch_within fs line v k stands.0 fragments keep below stands.1)
+        near.complete k _ _ below stands.2 (stretch_within fs line reach v k stands.0 fragments least keep below stands.1)
 
     contained : (k : ℕ) → k < length fs → (q : Pix)
         → (clash_pixel clash v mine (stretch_at fs line v k) ≡ Some q) ⊎ (clash_pixel clash v (stretch_at fs line v k) mine ≡ Some q)

@@ -55,12 +55,12 @@ test_of_inside band opens s t h =
     )
 
 -- all stretches inside the band are among those that are near it
-pub first_spot_is : (fs : List Fragment) (line : ℕ → ℤ) (v : Bool) (band : Rect) (opens : Bool) (numbers : List ℕ)
-    → IsFragmentList fs → KeepNear fs line (pos 128) → IsAllNear fs (rect_at v band.x0 band.x1 band.y0 band.y1) numbers
+pub first_spot_is : (fs : List Fragment) (line : ℕ → ℤ) (reach : ℤ) (v : Bool) (band : Rect) (opens : Bool) (numbers : List ℕ)
+    → IsFragmentList fs → pos 0 ≤ℤ reach → KeepNear fs line reach → IsAllNear fs reach (rect_at v band.x0 band.x1 band.y0 band.y1) numbers
     → IsFirst (SpotsAt fs line v band opens) (first_from (λ k. spot_pixel v band opens (stretch_at fs line v k)) None numbers)
-first_spot_is fs line v band opens numbers fragments keep near =
+first_spot_is fs line reach v band opens numbers fragments least keep near =
     IsFirst-cover (λ p. (k : ℕ) × Contains numbers k × (spot_pixel v band opens (stretch_at fs line v k) ≡ Some p)) _ _
-    (λ p found. (found.0, contained_below fs _ numbers found.0 near found.1, found.2))
+    (λ p found. (found.0, contained_below fs reach _ numbers found.0 near found.1, found.2))
     (λ q found.
     let k = found.0 in
     let s = stretch_at fs line v k in
@@ -71,7 +71,7 @@ first_spot_is fs line v band opens numbers fragments keep near =
       (
         k,
         near.complete k _ _ found.1 (covers_at v band.x0 band.x1 band.y0 band.y1 s.at t (omega (arith, ints)) in_band.before in_band.low in_band.high)
-            (stretch_within fs line v k t fragments keep found.1 in_band.spans),
+            (stretch_within fs line reach v k t fragments least keep found.1 in_band.spans),
         found.2,
       ),
       IsUpTo-refl q,

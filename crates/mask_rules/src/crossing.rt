@@ -5,7 +5,7 @@ ghost use Rattle.outline_model.specs.Outline.{high_end, is_vertical, low_end, ma
 ghost use Rattle.outline_model.specs.Rules.{CrossesAt};
 ghost use Rattle.mask_rules.specs.First.{IsFirst};
 ghost use Rattle.mask_rules.specs.Limits.{IsRectWithin};
-ghost use Rattle.mask_rules.specs.Placements.{IsPlacement, line_of, line_to};
+ghost use Rattle.mask_rules.specs.Placements.{IsNearOffset, IsPlacement, line_of, line_to};
 ghost use Rattle.mask_rules.specs.Spots.{lowest};
 ghost use Rattle.mask_rules.specs.Sweeps.{IsBeside, MiscountAt, NoneCrosses, corner_of};
 
@@ -61,6 +61,7 @@ pub fn first_crossing(present: &Placement, near: &Near, to: i32) -> Option<Pix>
     requires placement { IsPlacement present.now }
     requires near { near.now ≡ present.now.fragments.now }
     requires to { IsWithin 128 to }
+    requires to_near { IsNearOffset present.now.reach to }
     requires moves { to ≢ present.now.to }
     requires crosses { NoneCrosses present.now.fragments.now (line_of present.now) }
     requires ordered { low_end present.now.fragments.now (line_of present.now) present.now.moved
@@ -73,6 +74,7 @@ pub fn first_crossing(present: &Placement, near: &Near, to: i32) -> Option<Pix>
         offsets: present.offsets,
         moved: i,
         to,
+        reach: present.reach,
     };
     let meeting = first_clash(&next, near, Clash::Meet);
     let rect = swept(present, line(&next, i));

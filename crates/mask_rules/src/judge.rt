@@ -3,7 +3,7 @@ ghost use Rattle.outline_model.specs.Limits.{IsFragmentList, IsOffsets};
 ghost use Rattle.outline_model.specs.Ranges.{IsWithin};
 ghost use Rattle.outline_model.specs.Rules.{IsFirstBroken, KeepsRules};
 ghost use Rattle.mask_rules.specs.Limits.{IsRules};
-ghost use Rattle.mask_rules.specs.Placements.{IsPlacement, line_of};
+ghost use Rattle.mask_rules.specs.Placements.{IsNearOffset, IsPlacement, line_of};
 ghost use Rattle.mask_rules.specs.Verdicts.{IsJudged, IsOrdered, NoneBreaks, broken_fragment, broken_pixel};
 
 use crate::clash::Clash;
@@ -67,6 +67,7 @@ fn judge_pixels(present: &Placement, near: &Near, to: i32, rules: &MaskRules) ->
     requires list { IsFragmentList present.now.fragments.now }
     requires rules { IsRules rules.now }
     requires to { IsWithin 128 to }
+    requires to_near { IsNearOffset present.now.reach to }
     requires moves { to ≢ present.now.to }
     requires keeps { KeepsRules rules.now present.now.fragments.now (slice_set present.now.offsets.now present.now.moved present.now.to) }
     requires offset { NoneBreaks rules.now present.now.fragments.now (slice_set present.now.offsets.now present.now.moved to) RuleName.M5 }
@@ -78,6 +79,7 @@ fn judge_pixels(present: &Placement, near: &Near, to: i32, rules: &MaskRules) ->
         offsets: present.offsets,
         moved: present.moved,
         to,
+        reach: present.reach,
     };
     let narrow = Clash::Narrow {
         covered: true,
@@ -107,6 +109,8 @@ fn judge(present: &Placement, near: &Near, to: i32, rules: &MaskRules) -> Option
     requires placement { IsPlacement present.now }
     requires near { near.now ≡ present.now.fragments.now }
     requires rules { IsRules rules.now }
+    requires reach_in { rules.now.max_in ≤ℤ present.now.reach }
+    requires reach_out { rules.now.max_out ≤ℤ present.now.reach }
     requires moves { to ≢ present.now.to }
     requires kept { KeepsRules rules.now present.now.fragments.now present.now.offsets.now }
     requires keeps { KeepsRules rules.now present.now.fragments.now (slice_set present.now.offsets.now present.now.moved present.now.to) }
@@ -121,6 +125,7 @@ fn judge(present: &Placement, near: &Near, to: i32, rules: &MaskRules) -> Option
         offsets: present.offsets,
         moved: present.moved,
         to,
+        reach: present.reach,
     };
     match first_disorder(&next, fragment.previous(), fragment.next()) {
         Some(k) => Some(at_fragment(RuleName::M4, k)),
@@ -153,6 +158,7 @@ pub fn first_broken(
         offsets,
         moved: i,
         to: from,
+        reach: rules.max_in.max(rules.max_out),
     };
     judge(&present, near, to, rules)
 }

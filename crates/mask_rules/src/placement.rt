@@ -17,6 +17,8 @@ pub struct Placement<'a> {
     pub offsets: &'a [i32],
     pub moved: u32,
     pub to: i32,
+    /// No offset is greater than this.
+    pub reach: i32,
 }
 
 /// Where the line of a fragment lies.

@@ -48,7 +48,7 @@ fn first_clash_of(
 {
     let mine = stretch(outline, vertical, c);
     let mut first = None;
-    for k in near.meets(&clash.around(vertical, mine)) {
+    for k in near.meets_within(&clash.around(vertical, mine), outline.reach) {
         let found = pair_pixel(outline, clash, vertical, mine, k);
         first = earlier(first, found);
     }

@@ -52,7 +52,8 @@ pub fn first_spot(
     ensures { IsFirst (SpotsAt outline.now.fragments.now (line_of outline.now) vertical band.now opens) result }
 {
     let mut first = None;
-    for k in near.meets(&rect_at(vertical, band.x0, band.x1, band.y0, band.y1)) {
+    let zone = rect_at(vertical, band.x0, band.x1, band.y0, band.y1);
+    for k in near.meets_within(&zone, outline.reach) {
         let found = spot_pixel(outline, vertical, band, opens, k);
         first = earlier(first, found);
     }

@@ -52,7 +52,7 @@ jog_at_rest fs line k outline rest below = by (finish_join (fragment_at fs k)) r
         ∙ sym (ap (λ (p : Piece). p.to) (jog_at_cut fs line k j outline below e))
     by (Corner j) e = jog_at_corner fs line k j outline below e
 
-finish_at_rest : (fs : List Fragment) (line : ℕ → ℤ) (k : ℕ) → IsOutline fs → AtRest fs line → k < length fs
+pub finish_at_rest : (fs : List Fragment) (line : ℕ → ℤ) (k : ℕ) → IsOutline fs → AtRest fs line → k < length fs
     → end_at line (finish_join (fragment_at fs k)) (finish_place (fragment_at fs k)) ≡ finish_place (fragment_at fs k)
 finish_at_rest fs line k outline rest below = by (finish_join (fragment_at fs k)) refl
   where
@@ -60,7 +60,7 @@ finish_at_rest fs line k outline rest below = by (finish_join (fragment_at fs k)
     by (Cut j) e = refl
     by (Corner j) e = rest j ∙ sym (outline.corner k j below e).2
 
-start_at_rest : (fs : List Fragment) (line : ℕ → ℤ) (k : ℕ) → IsOutline fs → AtRest fs line → k < length fs
+pub start_at_rest : (fs : List Fragment) (line : ℕ → ℤ) (k : ℕ) → IsOutline fs → AtRest fs line → k < length fs
     → end_at line (start_join (fragment_at fs k)) (start_place (fragment_at fs k)) ≡ start_place (fragment_at fs k)
 start_at_rest fs line k outline rest below = by (start_join (fragment_at fs k)) refl
   where

@@ -20,5 +20,7 @@
 mod entries;
 mod ground_sums;
 mod tables;
+#[cfg(test)]
+mod tests;
 
 pub use tables::Tables;

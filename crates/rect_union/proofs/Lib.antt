@@ -17,3 +17,4 @@ pub mod MergingLaws
 pub mod WithinLaws
 pub mod TouchLaws
 pub mod ClosedWalks
+pub mod JoinLaws

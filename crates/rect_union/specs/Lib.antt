@@ -13,3 +13,4 @@ pub mod CornerSets
 pub mod CornerCount
 pub mod Merging
 pub mod Touches
+pub mod Joins

@@ -3,6 +3,7 @@
 
 mod columns;
 mod corners;
+mod join;
 mod merge;
 mod outlines;
 mod quadrants;

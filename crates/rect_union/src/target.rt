@@ -1,15 +1,13 @@
 //! The union of placed outlines.
 
 ghost use Rattle.std.specs.Prelude.{◌≡◌, ◌≤◌, ℤ, length, All, IfOk, IfErr};
-ghost use Rattle.opc_base.specs.Canonical.{AreCanonical, IsCanonical};
+ghost use Rattle.opc_base.specs.Canonical.{IsCanonical};
 ghost use Rattle.opc_base.specs.Plane.{IsRectWithin, cover};
 ghost use Rattle.opc_base.specs.Target.{HasMoreCornersThan, target};
 
-use crate::outlines::quadrants_of;
-use crate::quadrants::sort_rows;
+use crate::join::joined_rects;
 use crate::rect_corners::count_corners;
-use crate::sweep::region_of_quadrants;
-use opc_base::{NoMemory, Placed, Rect, Region};
+use opc_base::{NoMemory, Placed, Region};
 use std::alloc::{AllocError, Global};
 
 /// Why a target is not given.
@@ -18,18 +16,6 @@ pub enum UnionFault {
     /// It has more than 65,536 corners.
     TooManyCorners,
     NoMemory,
-}
-
-fn target_rects(alloc: Global, placed: &Placed) -> Result<Vec<Rect>, AllocError>
-    ensures canonical { IfOk result (λ rects. AreCanonical rects.items) }
-    ensures within { IfOk result (λ rects. All (IsRectWithin 1048000) rects.items) }
-    ensures pixels { IfOk result (λ rects. (x y : ℤ) → cover rects.items x y ≡ target placed.now x y) }
-{
-    let outlines = placed.outlines();
-    let mut quadrants = quadrants_of(alloc, outlines)?;
-    sort_rows(&mut quadrants);
-    let rects = region_of_quadrants(alloc, outlines.len(), &quadrants)?;
-    Ok(rects)
 }
 
 impl From<AllocError> for UnionFault {
@@ -63,7 +49,7 @@ pub fn union(alloc: Global, placed: &Placed) -> Result<Region, UnionFault>
     ensures corners { IfOk result (λ _. ¬ HasMoreCornersThan 65536 (target placed.now)) }
     ensures too_many { IfErr result (λ fault. fault ≡ UnionFault.TooManyCorners → HasMoreCornersThan 65536 (target placed.now)) }
 {
-    let rects = target_rects(alloc, placed)?;
+    let rects = joined_rects(alloc, placed.outlines())?;
     let corners = count_corners(alloc, &rects)?;
     if corners > 65536 {
         return Err(UnionFault::TooManyCorners);

@@ -10,11 +10,7 @@ use std::alloc::Global;
 use std::test::Fail;
 
 /// Adds the polygon with these points, if it is closed, along the grid and within the limit.
-fn add(
-    alloc: Global,
-    outlines: &mut Vec<Outline>,
-    points: &[(i32, i32)],
-) -> Result<(), NoMemory>
+fn add(alloc: Global, outlines: &mut Vec<Outline>, points: &[(i32, i32)]) -> Result<(), NoMemory>
     requires { All IsPlaced outlines.old.items }
     ensures { OnOk result (All IsPlaced outlines.new.items) }
 {
@@ -100,8 +96,16 @@ fn rect(x0: i32, y0: i32, x1: i32, y1: i32) -> Rect {
 fn unites_overlaps_and_a_keyhole(rt: HostRuntime) -> Result<(), Fail> {
     let alloc = rt.alloc();
     let mut outlines = Vec::new(alloc);
-    add(alloc, &mut outlines, &[(0, 0), (10, 0), (10, 4), (0, 4), (0, 0)])?;
-    add(alloc, &mut outlines, &[(5, 2), (12, 2), (12, 8), (5, 8), (5, 2)])?;
+    add(
+        alloc,
+        &mut outlines,
+        &[(0, 0), (10, 0), (10, 4), (0, 4), (0, 0)],
+    )?;
+    add(
+        alloc,
+        &mut outlines,
+        &[(5, 2), (12, 2), (12, 8), (5, 8), (5, 2)],
+    )?;
     add(
         alloc,
         &mut outlines,
@@ -140,8 +144,16 @@ fn unites_overlaps_and_a_keyhole(rt: HostRuntime) -> Result<(), Fail> {
 fn adds_no_windings_across_shapes(rt: HostRuntime) -> Result<(), Fail> {
     let alloc = rt.alloc();
     let mut outlines = Vec::new(alloc);
-    add(alloc, &mut outlines, &[(0, 0), (4, 0), (4, 4), (0, 4), (0, 0)])?;
-    add(alloc, &mut outlines, &[(0, 0), (0, 4), (4, 4), (4, 0), (0, 0)])?;
+    add(
+        alloc,
+        &mut outlines,
+        &[(0, 0), (4, 0), (4, 4), (0, 4), (0, 0)],
+    )?;
+    add(
+        alloc,
+        &mut outlines,
+        &[(0, 0), (0, 4), (4, 4), (4, 0), (0, 0)],
+    )?;
     add(
         alloc,
         &mut outlines,
@@ -168,8 +180,16 @@ fn adds_no_windings_across_shapes(rt: HostRuntime) -> Result<(), Fail> {
 fn finds_where_squares_touch(rt: HostRuntime) -> Result<(), Fail> {
     let alloc = rt.alloc();
     let mut outlines = Vec::new(alloc);
-    add(alloc, &mut outlines, &[(0, 0), (10, 0), (10, 10), (0, 10), (0, 0)])?;
-    add(alloc, &mut outlines, &[(10, 10), (20, 10), (20, 20), (10, 20), (10, 10)])?;
+    add(
+        alloc,
+        &mut outlines,
+        &[(0, 0), (10, 0), (10, 10), (0, 10), (0, 0)],
+    )?;
+    add(
+        alloc,
+        &mut outlines,
+        &[(10, 10), (20, 10), (20, 20), (10, 20), (10, 10)],
+    )?;
     let region = union(alloc, &Placed::from_outlines(outlines))?;
     let rects = region.rects();
     let wanted = [rect(0, 0, 10, 10), rect(10, 10, 20, 20)];

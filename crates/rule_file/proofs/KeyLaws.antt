@@ -1,12 +1,12 @@
 -- What a key that passes holds, and what the first fault of a table says.
-use Rattle.std.proofs.Common.{◌≡◌, ℕ, zero, suc, ◌+◌, ◌<◌, ◌≤◌, ◌≤ℤ◌, ℤ, pos, Bool, true, false, cond, not, ◌&&◌, ◌||◌, List, [], ◌∷◌, length, get_or, drop, Option, Some, None, IsSomeAnd, IsUtf8, All, IsTrue, String, Global, string_bytes, refl, sym, ap, ◌∙◌, subst, arith, lit<, nat_le}
+use Rattle.std.proofs.Common.{◌≡◌, ℕ, zero, suc, ◌+◌, ◌<◌, ◌≤ℤ◌, ℤ, pos, Bool, true, false, cond, not, ◌&&◌, ◌||◌, List, [], ◌∷◌, length, get_or, drop, Option, Some, None, IsSomeAnd, IsUtf8, String, Global, string_bytes, refl, sym, ap, ◌∙◌, subst, arith, lit<, nat_le}
 use Rattle.std.proofs.lemmas.Bool.{and_parts}
 use Rattle.std.proofs.lemmas.Bool.Decides.{nat_tests}
 use Rattle.std.proofs.lemmas.Int.{ints}
 use Rattle.std.proofs.lemmas.List.{at_drop_more}
 use Rattle.std.proofs.lemmas.List.Sums.{AllPass-from_list_all}
 use Rattle.std.proofs.lemmas.Str.{IsUtf8-from_is_utf8, is_utf8-from_IsUtf8}
-use Rattle.std.specs.List.{list_all, list_any, AllPass}
+use Rattle.std.specs.List.{list_all, list_any}
 use Rattle.std.specs.Map.{keys_of}
 use Rattle.std.specs.Option.{option_and_then, option_or}
 use Rattle.std.specs.Prelude.{int_le}
@@ -23,7 +23,7 @@ use Rattle.rule_file.specs.declared.key.Kind.{Kind}
 use Rattle.rule_file.specs.declared.key.Kind.TheVariants.{Whole, TopName, MaskName}
 use Rattle.rule_file.specs.declared.fault.RuleFault.{RuleFault}
 use Rattle.rule_file.specs.declared.fault.RuleFault.TheVariants.{NotToml}
-use Rattle.rule_file.specs.Keys.{keys, name_of, kind_of, is_top, is_mask_name, is_key, IsWhole, IsSmall, IsName, HoldsNumber, HoldsText}
+use Rattle.rule_file.specs.Keys.{keys, kind_of, is_top, is_mask_name, is_key, IsWhole, IsSmall, IsName, HoldsNumber, HoldsText}
 use Rattle.rule_file.specs.RuleText.{value_at, whole_at, text_at, whole_fault, text_fault, value_fault, key_fault, first_fault, has_unknown, table_fault, document_fault, rule_fault, HasRules, SaysRules}
 
 some_none : {A : Type 0} (x : A) → Some x ≡ None → ⊥

@@ -1,4 +1,4 @@
-use Rattle.std.proofs.Common.{FitsSigned, w64, rules}
+use Rattle.std.proofs.Common.{FitsSigned, w64}
 use Rattle.std.proofs.lemmas.Int.{to_z-of_z}
 use Rattle.contour_error.proofs.ContourLaws.{crossing_is}
 use Rattle.contour_error.proofs.contour.crossing.Goals as goal

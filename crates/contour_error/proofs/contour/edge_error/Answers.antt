@@ -1,4 +1,4 @@
-use Rattle.std.proofs.Common.{◌≡◌, ◌-◌, Option, Some, FitsSigned, w64, rules, arith, sym, ◌∙◌, subst, unsigned_abs, ◌≤◌, ◌*◌}
+use Rattle.std.proofs.Common.{◌≡◌, ◌-◌, Some, FitsSigned, w64, rules, arith, sym, ◌∙◌, subst, unsigned_abs, ◌≤◌, ◌*◌}
 use Rattle.std.proofs.lemmas.Int.{ints, to_z-of_z}
 use Rattle.contour_error.specs.Contour.{sample, side, contour, IsContour, LiesAtContour}
 use Rattle.contour_error.proofs.ContourLaws.{error_of-Some, size_at, lies_at, sum_of, at_contour}

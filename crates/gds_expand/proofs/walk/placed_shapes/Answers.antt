@@ -2,7 +2,7 @@ use Rattle.std.proofs.Common.{◌≡◌, suc, ◌-◌, ◌*◌, ◌^◌, ◌<◌
 use Rattle.std.proofs.lemmas.List.{nil_from_length}
 use Rattle.gds_expand.specs.declared.walk.Step.TheVariants.{Shape, Copy}
 use Rattle.gds_expand.specs.declared.walk.Task.{Task}
-use Rattle.gds_expand.proofs.WalkLemmas.{IsWalking, IsWithin-le, steps_of-row, goes_on_at, with_last, last_placing, near_task, starts_walk_from, ends_walk, ends_task, places_shape, enters_copy, fewer_at_end, fewer_at_shape, fewer_at_copy}
+use Rattle.gds_expand.proofs.WalkLemmas.{IsWalking, IsWithin-le, steps_of-row, goes_on_at, with_last, last_placing, near_task, starts_walk_from, ends_near, ends_walk, ends_task, places_shape, enters_copy, fewer_at_end, fewer_at_shape, fewer_at_copy}
 use Rattle.gds_expand.proofs.walk.placed_shapes.Goals as goal
 
 pub walk-init : goal.walk-init
@@ -82,8 +82,11 @@ walk-preserved g c =
     ends_task c.args.plan.now g.rank c.args.top c.in-Some.task.structure c.in-Some.task.next c.in-Some.task.placement c.walk.shapes.items c.pop.new.self.items
     (rw here c.in_default-get.ensures.lookup.3) h
 
-pub returns : goal.returns
-returns g c = λ depth deep.
+pub returns-clause-near : goal.returns-clause-near
+returns-clause-near g c = ends_near g.rank c.args.top c.walk.shapes.items c.requires.1.1 c.walk.invariant.near
+
+pub returns-clause-placed : goal.returns-clause-placed
+returns-clause-placed g c = λ depth deep.
     let no_task : length c.walk.tasks.items ≡ 0 = omega (arith, c.in_default.ensures.cases.0) in
     let none : c.walk.tasks.items ≡ [] = nil_from_length c.walk.tasks.items no_task in
     ends_walk c.args.plan.now g.rank c.args.top c.walk.shapes.items depth c.requires.0 deep

@@ -1,4 +1,4 @@
-use Rattle.std.proofs.Common.{◌≡◌, ◌+◌, ◌-◌, take, refl, ap, sym, ◌∙◌, arith}
+use Rattle.std.proofs.Common.{◌≡◌, ◌+◌, ◌-◌, take, ap, sym, ◌∙◌, arith}
 use Rattle.gds_model.specs.Names.{name_of}
 use Rattle.gds_library.proofs.NameLemmas.{name_of-take_zero, name_of-take_other}
 use Rattle.gds_library.proofs.names.name_in.Goals as goal
@@ -7,8 +7,7 @@ use Rattle.gds_library.proofs.names.name_in.Goals.{then-loop-end-test+else-body-
 pub loop-end-preserved : goal.loop-end-preserved
 loop-end-preserved c =
     let known = c.loop-end.invariant in
-    let last : c.loop-end.end ≡ c.loop-end.end - 1 + 1 = omega (arith, c.loop-end-test.true) in
-    (
+    let last : c.loop-end.end ≡ c.loop-end.end - 1 + 1 = omega (arith, c.loop-end-test.true) in (
       omega (arith, known.0),
       known.1 ∙ ap (λ n. name_of (take n c.args.body.now)) last
           ∙ name_of-take_zero c.args.body.now (c.loop-end.end - 1) (omega (arith, known.0, c.loop-end-test.true)) c.if-body-end-eq0.true,

@@ -1,20 +1,19 @@
-use Rattle.std.proofs.Common.{◌≡◌, ◌≢◌, ℕ, ◌+◌, ◌<◌, ◌≤◌, length, List, arith, refl, sym, ◌∙◌, ap, subst, inl, inr, ◌⊎◌}
-use Rattle.std.specs.Prelude.{Result, Ok, Err, IfOk, IfErr}
+use Rattle.std.proofs.Common.{◌≡◌, ◌≢◌, ℕ, ◌+◌, ◌<◌, length, arith, refl, sym, ◌∙◌, ap, subst, inl, inr}
 use Rattle.std.proofs.lemmas.Result.{err_from_is_err_and}
-use Rattle.gds_records.specs.Records.{StreamRecord, end_of, ENDLIB}
+use Rattle.gds_records.specs.Records.{end_of, ENDLIB}
 use Rattle.gds_records.specs.NextRecord.{seen}
 use Rattle.gds_records.proofs.RecordsLemmas.{record_at-some, record_at-past, record_at-cut, record_at-bad_length, cut_not_bad, end_not_bad}
 use Rattle.gds_model.specs.declared.layout_fault.LayoutFault.TheVariants.{Cut, BadLength}
 use Rattle.gds_model.specs.declared.record_kind.RecordKind.TheVariants.{EndLib}
 use Rattle.gds_model.specs.RecordKind.{code_of}
 use Rattle.gds_model.specs.Body.{body_of_kind, element_code}
-use Rattle.gds_model.specs.Faults.{HasNoFault, IsFault, AllZeroFrom, IsTrailingFrom}
+use Rattle.gds_model.specs.Faults.{HasNoFault, AllZeroFrom, IsTrailingFrom}
 use Rattle.gds_model.specs.Library.{StreamLibrary, IsLibraryOf, IsLayout}
 use Rattle.gds_library.specs.Progress.{names_read}
 use Rattle.gds_library.specs.Gathered.{nothing_gathered, with_record, with_records}
 use Rattle.gds_library.specs.Draft.{HoldsGathered}
 use Rattle.gds_library.proofs.Firsts.{code_differs}
-use Rattle.gds_library.proofs.Reading.{Reading, Ended, at_start, stopped, faulty, read, ended, no_fault_there, trailing, library_there, layout_there, names_there, has_size-fits, another_name}
+use Rattle.gds_library.proofs.Reading.{Reading, at_start, stopped, faulty, read, ended, no_fault_there, trailing, library_there, layout_there, names_there, has_size-fits, another_name}
 use Rattle.gds_library.proofs.reader.read_records.Goals as goal
 
 pub loop-record-init : goal.loop-record-init

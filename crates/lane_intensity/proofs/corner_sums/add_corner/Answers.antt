@@ -1,4 +1,4 @@
-use Rattle.std.proofs.Common.{◌≡◌, ℕ, ◌<◌, ℤ, ◌-ℤ◌, ◌*ℤ◌, pos, get_or, SFits, w8, w64, to_z, of_z, to_z-of_z, rules, zero-add, ap₂, ◌∙◌, sym, arith}
+use Rattle.std.proofs.Common.{◌≡◌, ◌<◌, ◌-ℤ◌, ◌*ℤ◌, pos, get_or, SFits, w8, w64, to_z, of_z, to_z-of_z, rules, zero-add, ap₂, ◌∙◌, arith}
 use Rattle.std.proofs.lemmas.Int.{ints}
 use Rattle.opc_base.proofs.ChangeLaws.{RisesBy-same}
 use Rattle.opc_base.proofs.ClampLaws.{block-at}

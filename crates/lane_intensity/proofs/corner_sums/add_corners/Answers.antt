@@ -1,5 +1,6 @@
-use Rattle.std.proofs.Common.{◌≡◌, ℕ, ◌+◌, ◌*◌, ◌^◌, ◌≤◌, pos, unsigned_abs, get_or, take, take_all, ◌∙◌, arith}
+use Rattle.std.proofs.Common.{◌≡◌, ◌+◌, ◌*◌, ◌^◌, ◌≤◌, pos, unsigned_abs, get_or, take, take_all, ◌∙◌, arith}
 use Rattle.lane_intensity.proofs.CornerSums.{corners_amplitudes, corners_part, corners_start, corners_step, small_step}
+use Rattle.lane_intensity.proofs.AmplitudeLaws.{amplitude_of_lane-bound}
 use Rattle.lane_intensity.proofs.corner_sums.add_corners.Goals as goal
 
 pub loop-corner-init : goal.loop-corner-init
@@ -31,3 +32,12 @@ returns-clause-part g c pixels near =
 pub returns-clause-amplitudes : goal.returns-clause-amplitudes
 returns-clause-amplitudes g c pixels near from =
     corners_amplitudes c.args.tables.now pixels c.args.at.x c.args.at.y _ _ from (returns-clause-part g c pixels near)
+
+pub returns-clause-small : goal.returns-clause-small
+returns-clause-small g c pixels near from =
+    let amplitudes = returns-clause-amplitudes g c pixels near from in
+    record {
+      count = amplitudes.count;
+      small = λ lane below. rw (amplitudes.each lane below)
+          (amplitude_of_lane-bound c.args.tables.now pixels c.args.at.x c.args.at.y lane c.lanes.ensures.bounds);
+    }

@@ -1,4 +1,4 @@
-use Rattle.std.proofs.Common.{ℤ, pos, List, slice_index_or, to_z-of_z, zero-add, arith}
+use Rattle.std.proofs.Common.{ℤ, pos, List, slice_index_or, to_z-of_z, zero-add}
 use Rattle.opc_base.proofs.ChangeLaws.{RisesBetween-set}
 use Rattle.lane_intensity.specs.Differences.{times_lane}
 use Rattle.lane_intensity.proofs.CornerSums.{lane-is, product-is, sum-fits}

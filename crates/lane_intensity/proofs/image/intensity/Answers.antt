@@ -1,10 +1,9 @@
-use Rattle.std.proofs.Common.{◌≡◌, ◌+◌, ℤ, pos, length, take, take_all, ap, ◌∙◌, arith}
+use Rattle.std.proofs.Common.{◌≡◌, ◌+◌, pos, length, take_all, ap, ◌∙◌, arith}
 use Rattle.std.proofs.lemmas.Int.{ints}
 use Rattle.std.proofs.lemmas.List.{length-map}
 use Rattle.opc_base.specs.Sums.{sum_each}
 use Rattle.opc_base.specs.declared.kernels.Kernel.{Kernel}
-use Rattle.opc_base.proofs.SumLaws.{sum_each_start}
-use Rattle.lane_intensity.proofs.PowerSums.{own, power_of_kernel, powers-are, powers_start, powers_step, weight_next, weights_upto}
+use Rattle.lane_intensity.proofs.PowerSums.{power_of_kernel, powers-are, powers_start, powers_step, weight_next, weights_upto}
 use Rattle.lane_intensity.proofs.image.intensity.Goals as goal
 
 pub loop-kernel-init : goal.loop-kernel-init

@@ -1,4 +1,4 @@
-use Rattle.std.proofs.Common.{◌≡◌, ◌+◌, ◌*◌, ◌≤◌, ℤ, pos, unsigned_abs, slice_index_or, to_z-of_z, arith}
+use Rattle.std.proofs.Common.{◌+◌, ◌*◌, ◌≤◌, ℤ, pos, unsigned_abs, slice_index_or, to_z-of_z, arith}
 use Rattle.lane_intensity.proofs.PowerSums.{lane-fits, power-fits, square-fits, weight-fits, weighted-fits, weighted-small}
 use Rattle.lane_intensity.proofs.image.power_of.Goals as goal
 

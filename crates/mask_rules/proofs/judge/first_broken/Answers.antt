@@ -1,10 +1,11 @@
 -- A fragment that stays breaks no rule; else the verdict on the move decides.
-use Rattle.std.proofs.Common.{◌≡◌, ℤ, pos, List, get_or, set, w32, to_z, of_z, SFits, refl, sym, ◌∙◌, ap, subst, arith}
-use Rattle.std.proofs.lemmas.Int.{ints, to_z-of_z}
+use Rattle.std.proofs.Common.{◌≡◌, ◌≤ℤ◌, ℤ, pos, List, get_or, set, w32, to_z, of_z, SFits, refl, sym, ◌∙◌, ap, subst, arith}
+use Rattle.std.proofs.lemmas.Int.{ints, clamps, to_z-of_z}
 use Rattle.std.proofs.lemmas.List.{set-get_or}
 use Rattle.outline_model.specs.Rules.{KeepsRules}
 use Rattle.mask_rules.specs.Verdicts.{IsJudged}
 use Rattle.mask_rules.proofs.VerdictLemmas.{judged_if_some, judged_is_none}
+use Rattle.mask_rules.proofs.RuleOffsets.{near_of_rules}
 use Rattle.mask_rules.proofs.judge.first_broken.Goals as goal
 
 pub returns-then-to-from-clause-kept : goal.returns-then-to-from-clause-kept
@@ -37,3 +38,30 @@ returns-clause-kept c =
     let to_fits : SFits w32 c.args.to = c.ranges.to in
     let judged : IsJudged c.args.rules.now c.args.fragments.now (set c.args.offsets.now c.args.i c.args.to) c.judge.result = simp to_z-of_z at c.judge.ensures in
     judged_is_none c.args.rules.now c.args.fragments.now (set c.args.offsets.now c.args.i c.args.to) c.judge.result judged
+
+pub judge-requires-clause-placement : goal.judge-requires-clause-placement
+judge-requires-clause-placement c =
+    let r = c.args.rules.now in
+    let in_0 = r.max_in_in_range.0 in let in_1 = r.max_in_in_range.1 in
+    let out_0 = r.max_out_in_range.0 in let out_1 = r.max_out_in_range.1 in
+    let in_below : r.max_in ≤ℤ c.max.result = omega (arith, ints, clamps) in
+    let out_below : r.max_out ≤ℤ c.max.result = omega (arith, ints, clamps) in
+    let most : c.max.result ≤ℤ pos 128 = omega (arith, ints, clamps) in
+    let near = near_of_rules r c.args.fragments.now c.args.offsets.now c.max.result c.requires.keeps in_below out_below in
+    let mine = near c.args.i c.requires.fragment in
+    let mine_0 = mine.0 in let mine_1 = mine.1 in
+    let within = c.requires.offsets.within c.args.i c.requires.fragment in
+    let within_0 = within.0 in let within_1 = within.1 in
+    record {
+      offsets_within = c.requires.offsets;
+      moved_below = c.requires.fragment;
+      to_within = (omega (arith, ints), omega (arith, ints));
+      reach_least = omega (arith, ints);
+      reach_most = omega (arith, ints);
+      offsets_near = λ k below. (
+          let h = near k below in
+          let l = h.0 in let m = h.1 in
+          (omega (arith, ints), omega (arith, ints))
+          );
+      to_near = (omega (arith, ints), omega (arith, ints));
+    }

@@ -1,7 +1,7 @@
 -- The rules of fragments come first.
-use Rattle.std.proofs.Common.{◌≡◌, ◌<◌, ◌≤◌, ◌≤ℤ◌, inl, inr, neg_ℤ, true, false, Some, length, set, w32, SFits, sym, ◌∙◌, ap, subst, arith}
+use Rattle.std.proofs.Common.{◌≡◌, ◌<◌, ◌≤ℤ◌, inl, inr, neg_ℤ, true, false, Some, length, set, w32, SFits, sym, ◌∙◌, ap, subst, arith}
 use Rattle.std.specs.Prelude.{IsTrue, ◌↔◌}
-use Rattle.std.proofs.lemmas.Int.{to_z-of_z}
+use Rattle.std.proofs.lemmas.Int.{ints, to_z-of_z}
 use Rattle.outline_model.specs.declared.fragment.Fragment.{Fragment}
 use Rattle.opc_base.specs.declared.broken.RuleName.TheVariants.{M5}
 use Rattle.outline_model.specs.Outline.{joined, start_join, finish_join, next, previous, lines}
@@ -72,3 +72,46 @@ returns-in-Some c =
     subst (λ (b : Broken). IsJudged r fs (set p.offsets.now p.moved c.args.to) (Some b)) (sym c.at_fragment-in-Some.ensures)
     (judged_ends r fs p.offsets.now p.moved c.args.to k list.outline c.requires.kept m5 below out
     (subst (λ m. m < k → IsOrdered fs line m) before_is before) (subst (λ m. m < k → IsOrdered fs line m) after_is after))
+
+pub first_disorder-requires-clause-placement : goal.first_disorder-requires-clause-placement
+first_disorder-requires-clause-placement c =
+    let r = c.args.rules.now in
+    let to_fits : SFits w32 c.args.to = c.ranges.to in
+    let range_is : IsTrue c.is_in_range.result ↔ ((neg_ℤ r.max_in ≤ℤ c.args.to) × (c.args.to ≤ℤ r.max_out)) = simp to_z-of_z at c.is_in_range.ensures in
+    let yes : c.is_in_range.result ≡ true = c.if-not-is_in_range.false in
+    let in_range = range_is.0 yes in
+    let low = in_range.0 in let high = in_range.1 in
+    let least = c.requires.placement.reach_least in let most = c.requires.placement.reach_most in
+    record {
+      offsets_within = c.requires.placement.offsets_within;
+      moved_below = c.requires.placement.moved_below;
+      to_within = (omega (arith, ints), omega (arith, ints));
+      reach_least = omega (arith, ints);
+      reach_most = omega (arith, ints);
+      offsets_near = λ k below. (
+          let h = c.requires.placement.offsets_near k below in
+          let l = h.0 in let m = h.1 in
+          (omega (arith, ints), omega (arith, ints))
+          );
+      to_near = (omega (arith, ints), omega (arith, ints));
+    }
+
+pub judge_pixels-requires-clause-to : goal.judge_pixels-requires-clause-to
+judge_pixels-requires-clause-to c =
+    let r = c.args.rules.now in
+    let to_fits : SFits w32 c.args.to = c.ranges.to in
+    let range_is : IsTrue c.is_in_range.result ↔ ((neg_ℤ r.max_in ≤ℤ c.args.to) × (c.args.to ≤ℤ r.max_out)) = simp to_z-of_z at c.is_in_range.ensures in
+    let yes : c.is_in_range.result ≡ true = c.if-not-is_in_range.false in
+    let in_range = range_is.0 yes in
+    let low = in_range.0 in let high = in_range.1 in
+    (omega (arith, ints), omega (arith, ints))
+
+pub judge_pixels-requires-clause-to_near : goal.judge_pixels-requires-clause-to_near
+judge_pixels-requires-clause-to_near c =
+    let r = c.args.rules.now in
+    let to_fits : SFits w32 c.args.to = c.ranges.to in
+    let range_is : IsTrue c.is_in_range.result ↔ ((neg_ℤ r.max_in ≤ℤ c.args.to) × (c.args.to ≤ℤ r.max_out)) = simp to_z-of_z at c.is_in_range.ensures in
+    let yes : c.is_in_range.result ≡ true = c.if-not-is_in_range.false in
+    let in_range = range_is.0 yes in
+    let low = in_range.0 in let high = in_range.1 in
+    (omega (arith, ints), omega (arith, ints))

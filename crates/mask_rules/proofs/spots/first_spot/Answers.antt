@@ -16,9 +16,9 @@ use Rattle.mask_rules.proofs.spots.first_spot.Goals as goal
 
 pub spot_pixel-found-requires-clause-k : goal.spot_pixel-found-requires-clause-k
 spot_pixel-found-requires-clause-k c =
-    let turn = YieldsList-turn (YieldsList-from_first (λ (k : ℕ). k) (λ (m : List ℕ). m) c.meets-k-items.result c.into_iter-k-iterator.ensures.into_iter_gives)
+    let turn = YieldsList-turn (YieldsList-from_first (λ (k : ℕ). k) (λ (m : List ℕ). m) c.meets_within-k-items.result c.into_iter-k-iterator.ensures.into_iter_gives)
     c.loop-k.yielded _ c.loop-k.yielded_by _ _ c.in-Some.k c.in-Some.is c.next.ensures.steps in
-    let inside = c.meets-k-items.ensures.below (length c.loop-k.yielded) c.in-Some.k turn.0 in
+    let inside = c.meets_within-k-items.ensures.below (length c.loop-k.yielded) c.in-Some.k turn.0 in
     subst (λ (l : List Fragment). c.in-Some.k < length l) c.requires.near (subst (λ n. n < length c.args.near.now) (sym turn.1) inside)
 
 pub returns : goal.returns
@@ -27,21 +27,24 @@ returns c =
     let fs = p.fragments.now in
     let band = c.args.band.now in
     let v = c.args.vertical in
-    let ended = YieldsList-end (YieldsList-from_first (λ (k : ℕ). k) (λ (m : List ℕ). m) c.meets-k-items.result c.into_iter-k-iterator.ensures.into_iter_gives)
+    let ended = YieldsList-end (YieldsList-from_first (λ (k : ℕ). k) (λ (m : List ℕ). m) c.meets_within-k-items.result c.into_iter-k-iterator.ensures.into_iter_gives)
     c.loop-k.yielded _ c.loop-k.yielded_by _ _ c.in-None.is c.next.ensures.steps in
-    let all : c.loop-k.yielded ≡ c.meets-k-items.result = sym (map-id c.loop-k.yielded) ∙ ended.0 in
+    let all : c.loop-k.yielded ≡ c.meets_within-k-items.result = sym (map-id c.loop-k.yielded) ∙ ended.0 in
     let x0_fits : SFits w32 band.x0 = search rules in
     let y0_fits : SFits w32 band.y0 = search rules in
     let x1_fits : SFits w32 band.x1 = search rules in
     let y1_fits : SFits w32 band.y1 = search rules in
-    let rect_is : c.rect_at.result ≡ rect_at v band.x0 band.x1 band.y0 band.y1 = simp to_z-of_z at c.rect_at.ensures in
-    let near_all : IsAllNear c.args.near.now c.rect_at.result c.meets-k-items.result =
-    record { below = c.meets-k-items.ensures.below; complete = c.meets-k-items.ensures.complete } in
-    let near : IsAllNear fs (rect_at v band.x0 band.x1 band.y0 band.y1) c.loop-k.yielded =
-    subst (IsAllNear fs (rect_at v band.x0 band.x1 band.y0 band.y1)) (sym all)
-    (subst (λ (r : Rect). IsAllNear fs r c.meets-k-items.result) rect_is
-    (subst (λ (l : List Fragment). IsAllNear l c.rect_at.result c.meets-k-items.result) c.requires.near near_all)) in
+    let rect_is : c.rect_at-zone.result ≡ rect_at v band.x0 band.x1 band.y0 band.y1 = simp to_z-of_z at c.rect_at-zone.ensures in
+    let reach_fits : SFits w32 p.reach = search rules in
+    let reach_is = simp to_z-of_z at c.meets_within-k-items.ensures.complete in
+    let near_all : IsAllNear c.args.near.now p.reach c.rect_at-zone.result c.meets_within-k-items.result =
+    record { below = c.meets_within-k-items.ensures.below; complete = reach_is } in
+    let near : IsAllNear fs p.reach (rect_at v band.x0 band.x1 band.y0 band.y1) c.loop-k.yielded =
+    subst (IsAllNear fs p.reach (rect_at v band.x0 band.x1 band.y0 band.y1)) (sym all)
+    (subst (λ (r : Rect). IsAllNear fs p.reach r c.meets_within-k-items.result) rect_is
+    (subst (λ (l : List Fragment). IsAllNear l p.reach c.rect_at-zone.result c.meets_within-k-items.result) c.requires.near near_all)) in
     subst (IsFirst (SpotsAt fs (line_of p) v band c.args.opens)) (sym c.loop-k.invariant)
-    (first_spot_is fs (line_of p) v band c.args.opens c.loop-k.yielded c.requires.list
-    (keep_near fs p.offsets.now p.moved p.to c.requires.placement.offsets_within c.requires.placement.moved_below c.requires.placement.to_within)
+    (first_spot_is fs (line_of p) p.reach v band c.args.opens c.loop-k.yielded c.requires.list c.requires.placement.reach_least
+    (keep_near fs p.offsets.now p.moved p.to p.reach c.requires.placement.offsets_within.one_each c.requires.placement.moved_below c.requires.placement.reach_least
+    c.requires.placement.offsets_near c.requires.placement.to_near)
     near)

@@ -6,7 +6,7 @@ use Rattle.rect_union.proofs.target.union.Goals as goal
 
 pub returns-clause-canonical : goal.returns-clause-canonical
 returns-clause-canonical c =
-    rw c.from_rects.ensures.list (canonical_for (target c.args.placed.now) c.in_ok-rects.rects.items c.in_ok-rects.ensures.canonical c.in_ok-rects.ensures.pixels)
+    rw c.from_rects.ensures.list (canonical_for (target c.args.placed.now) c.in_ok-rects.rects.items c.in_ok-rects.ensures.canonical (rw c.outlines.ensures.list at c.in_ok-rects.ensures.pixels))
 
 pub returns-clause-few : goal.returns-clause-few
 returns-clause-few c =
@@ -18,4 +18,4 @@ pub returns-clause-corners : goal.returns-clause-corners
 returns-clause-corners c more =
     let counted = rw c.deref.ensures.value at c.in_ok-corners.ensures.counted in
     no_more_corners (target c.args.placed.now) c.in_ok-corners.corners 65536
-    (count_for (target c.args.placed.now) c.in_ok-rects.rects.items c.in_ok-corners.corners c.in_ok-rects.ensures.pixels counted) (omega arith) more
+    (count_for (target c.args.placed.now) c.in_ok-rects.rects.items c.in_ok-corners.corners (rw c.outlines.ensures.list at c.in_ok-rects.ensures.pixels) counted) (omega arith) more

@@ -1,4 +1,4 @@
-use Rattle.std.proofs.Common.{◌≡◌, ◌∷◌, [], ◌++◌, OnOk, refl, sym, ◌∙◌, subst}
+use Rattle.std.proofs.Common.{OnOk, refl, sym, ◌∙◌, subst}
 use Rattle.gds_records.specs.Records.{StreamRecord}
 use Rattle.gds_model.specs.declared.record_kind.RecordKind.{RecordKind}
 use Rattle.gds_model.specs.RecordKind.{code_of}
@@ -23,7 +23,7 @@ returns-in-EndEl c g held =
     let offset = c.args.record.now.offset in
     let body = c.args.record.now.body.now in
     let P : RecordKind → Type 0 = λ k. OnOk c.close_element.result
-        (HoldsGathered c.close_element.new.self (with_record g (record { offset = offset; code = code_of k; body = body }))) in
+    (HoldsGathered c.close_element.new.self (with_record g (record { offset = offset; code = code_of k; body = body }))) in
     subst P (sym c.in-EndEl.is) (c.close_element.ensures g _ held (Holds-end c.args.self.now.element g.open_records offset body held.element))
 
 pub returns-in_default : goal.returns-in_default

@@ -1,4 +1,4 @@
-use Rattle.std.proofs.Common.{◌≡◌, Some, None, sym, ◌∙◌}
+use Rattle.std.proofs.Common.{Some, None, sym, ◌∙◌}
 use Rattle.gds_library.specs.OpenElement.{first_offset}
 use Rattle.gds_library.proofs.Closing.{elements_in-of, comes_to-other}
 use Rattle.gds_library.proofs.open_element.OpenElement.close.Goals as goal

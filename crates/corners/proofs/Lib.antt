@@ -1,0 +1,3 @@
+mod MergeLaws
+mod SignLaws
+mod WindowLaws

@@ -1,0 +1,9 @@
+use Rattle.std.proofs.Common.{◌≡◌}
+use Rattle.rect_union.proofs.JoinLaws.{joining_step}
+use Rattle.rect_union.proofs.join.join_groups.Goals as goal
+
+pub loop-rest-preserved : goal.loop-rest-preserved
+loop-rest-preserved c =
+    let join = rw c.split_at.ensures.front at c.in_ok-outline.ensures.joined in
+    rw (c.split_at.ensures.back, c.in_ok-push.ensures.items)
+    (joining_step c.args.outlines.now c.loop-rest.joined.items c.loop-rest.rest.now c.min-count.result c.in_ok-outline.outline c.loop-rest.invariant join)
