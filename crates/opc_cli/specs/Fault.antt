@@ -51,7 +51,7 @@ kernels_text kernel.NoMemory = codes "out of memory"
 abbrev pub layout_text : LayoutFault → List ℕ
 layout_text (layout.Cut offset) = codes "cut at " ++ decimal offset
 layout_text (layout.BadLength offset) = codes "bad length at " ++ decimal offset
-layout_text (layout.Unexpected offset kind) = codes "unexpected record " ++ decimal kind ++ codes " at " ++ decimal offset
+layout_text (layout.Unexpected offset kind) = codes "unexpected record " ++ (decimal kind ++ (codes " at " ++ decimal offset))
 layout_text (layout.TooManyStructures offset) = codes "too many structures at " ++ decimal offset
 layout_text (layout.BadBody offset) = codes "bad body at " ++ decimal offset
 layout_text (layout.Duplicate offset) = codes "duplicate name at " ++ decimal offset
