@@ -11,7 +11,7 @@ use Rattle.opc_cli.specs.Fault.{fault_line, memory_line}
 use Rattle.opc_cli.specs.Plan.{Plan, Delivery, missing, refused, answered, reads, first_missing, IsPlan, IsPlanWhere, IsPlanOf, IsAnswered, IsAnsweredAnd}
 use Rattle.opc_cli.specs.Stop.{status_of_plan, read_line, write_line}
 use Rattle.opc_cli.specs.Outcome.{StopsAt, IsHeld, AppendsLine, AppendsMemoryLine, SaysLine, SaysMemoryLine, HasPartOfStores, IsRefusal, CannotRead, CannotWrite, IsRefused, OutOfMemory, MustCome}
-use Rattle.opc_cli.specs.Steps.{ServeStops, StopSaid, IsUntouched, Counts}
+use Rattle.opc_cli.specs.Steps.{Serves, ServeStops, StopSaid, IsUntouched, Counts}
 use Rattle.opc_cli.proofs.Agree.{plans_agree}
 use Rattle.opc_cli.proofs.Faults.{judged}
 use Rattle.opc_cli.proofs.Said.{memory_said}
@@ -203,3 +203,13 @@ module _ (words : List (List ℕ)) (command : Command) (before mid after : Outsi
     | inr ended ↦ absurd (omega arith)
   ]
   is_refused NoMemory served said five = elim said.ended [ inl ended ↦ absurd (omega arith) | inr ended ↦ absurd (omega arith) ]
+
+-- a command that was served calls for an answer, and no other status has to come
+pub served_must_come : (words : List (List ℕ)) (command : Command) (before after : Outside) → command_of words ≡ Some command → Serves command before after
+    → MustCome words before 0 after
+served_must_come words command before after is serves = record {
+  words_have_none = λ none. cc;
+  planned = rw is (under before.files _ (λ files told plan called_for stood calm.
+      let answer = rw told at serves in
+      inl (ap status_of_plan (plans_agree command files (answered answer.delivery) plan answer.called_for called_for))));
+}

@@ -3,6 +3,8 @@ use Rattle.std.specs.Prelude.{ℕ, List, [], ◌∷◌, ◌++◌, codes}
 use Rattle.std.specs.Fmt.{decimal}
 use Rattle.kernel_file.specs.declared.fault.KernelFault.{KernelFault}
 use Rattle.kernel_file.specs.declared.fault.KernelFault.TheVariants as kernel
+use Rattle.gds_model.specs.declared.layout_fault.LayoutFault.{LayoutFault}
+use Rattle.gds_model.specs.declared.layout_fault.LayoutFault.TheVariants as layout
 use Rattle.opc_engine.specs.declared.ask.Which.{Which}
 use Rattle.opc_engine.specs.declared.ask.Which.TheVariants as which
 use Rattle.opc_engine.specs.declared.fault.EngineFault.{EngineFault}
@@ -19,6 +21,7 @@ abbrev pub status_of_fault : EngineFault → ℕ
 status_of_fault (engine.NotYet file) = status_of_which file
 status_of_fault (engine.TooLong file) = status_of_which file
 status_of_fault (engine.Kernels fault) = 6
+status_of_fault (engine.Layout fault) = 5
 status_of_fault engine.NoMemory = 10
 
 -- said of want of memory
@@ -44,8 +47,20 @@ kernels_text (kernel.BadEntry offset) = codes "bad entry at " ++ decimal offset
 kernels_text kernel.WeightSum = codes "weights sum"
 kernels_text kernel.NoMemory = codes "out of memory"
 
+-- what a line says of a layout; of its want of memory the engine's own speaks
+abbrev pub layout_text : LayoutFault → List ℕ
+layout_text (layout.Cut offset) = codes "cut at " ++ decimal offset
+layout_text (layout.BadLength offset) = codes "bad length at " ++ decimal offset
+layout_text (layout.Unexpected offset kind) = codes "unexpected record " ++ (decimal kind ++ (codes " at " ++ decimal offset))
+layout_text (layout.TooManyStructures offset) = codes "too many structures at " ++ decimal offset
+layout_text (layout.BadBody offset) = codes "bad body at " ++ decimal offset
+layout_text (layout.Duplicate offset) = codes "duplicate name at " ++ decimal offset
+layout_text (layout.Trailing offset) = codes "trailing byte at " ++ decimal offset
+layout_text layout.NoMemory = codes "out of memory"
+
 abbrev pub fault_line : EngineFault → List ℕ
 fault_line (engine.NotYet file) = codes "opc: " ++ which_text file ++ codes ": not yet" ++ 10 ∷ []
 fault_line (engine.TooLong file) = codes "opc: " ++ which_text file ++ codes ": too long" ++ 10 ∷ []
 fault_line (engine.Kernels fault) = codes "opc: kernels: " ++ kernels_text fault ++ 10 ∷ []
+fault_line (engine.Layout fault) = codes "opc: layout: " ++ layout_text fault ++ 10 ∷ []
 fault_line engine.NoMemory = memory_line

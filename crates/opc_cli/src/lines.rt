@@ -1,10 +1,11 @@
 //! The lines that are said.
 ghost use Rattle.std.specs.Prelude.{◌≡◌, IfOk, string_bytes};
 ghost use Rattle.opc_cli.specs.Plan.{intensity_line};
-ghost use Rattle.opc_cli.specs.Fault.{which_text, kernels_text, fault_line};
+ghost use Rattle.opc_cli.specs.Fault.{which_text, kernels_text, layout_text, fault_line};
 ghost use Rattle.opc_cli.specs.Stop.{line_of};
 
 use crate::stop::Stop;
+use gds_model::LayoutFault;
 use kernel_file::KernelFault;
 use opc_base::{Bytes, NoMemory};
 use opc_engine::{EngineFault, Which};
@@ -53,6 +54,32 @@ fn kernels_text(alloc: Global, fault: &KernelFault) -> Result<String, NoMemory>
     Ok(text)
 }
 
+/// What a line says of a record that doesn't fit.
+fn unexpected_text(alloc: Global, offset: usize, kind: u8) -> Result<String, NoMemory>
+    ensures { IfOk result (λ text. string_bytes text ≡ layout_text (LayoutFault.Unexpected offset kind)) }
+{
+    Ok(format!(in alloc; "unexpected record {kind} at {offset}")?)
+}
+
+/// What a line says of a layout.
+fn layout_text(alloc: Global, fault: &LayoutFault) -> Result<String, NoMemory>
+    ensures { IfOk result (λ text. string_bytes text ≡ layout_text fault.now) }
+{
+    let text = match fault {
+        LayoutFault::Cut { offset } => format!(in alloc; "cut at {offset}")?,
+        LayoutFault::BadLength { offset } => format!(in alloc; "bad length at {offset}")?,
+        LayoutFault::Unexpected { offset, kind } => unexpected_text(alloc, *offset, *kind)?,
+        LayoutFault::TooManyStructures { offset } => {
+            format!(in alloc; "too many structures at {offset}")?
+        }
+        LayoutFault::BadBody { offset } => format!(in alloc; "bad body at {offset}")?,
+        LayoutFault::Duplicate { offset } => format!(in alloc; "duplicate name at {offset}")?,
+        LayoutFault::Trailing { offset } => format!(in alloc; "trailing byte at {offset}")?,
+        LayoutFault::NoMemory => String::from_str(alloc, "out of memory")?,
+    };
+    Ok(text)
+}
+
 /// The line of a fault of the engine.
 fn fault_line(alloc: Global, fault: &EngineFault) -> Result<String, NoMemory>
     ensures { IfOk result (λ line. string_bytes line ≡ fault_line fault.now) }
@@ -69,6 +96,10 @@ fn fault_line(alloc: Global, fault: &EngineFault) -> Result<String, NoMemory>
         EngineFault::Kernels(fault) => {
             let text = kernels_text(alloc, fault)?;
             format!(in alloc; "opc: kernels: {text}\n")?
+        }
+        EngineFault::Layout(fault) => {
+            let text = layout_text(alloc, fault)?;
+            format!(in alloc; "opc: layout: {text}\n")?
         }
         EngineFault::NoMemory => String::from_str(alloc, OUT_OF_MEMORY)?,
     };

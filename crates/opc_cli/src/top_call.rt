@@ -52,6 +52,7 @@ fn status_of_fault(fault: &EngineFault) -> u8
     match fault {
         EngineFault::NotYet { which } | EngineFault::TooLong { which } => status_of_which(*which),
         EngineFault::Kernels(_) => BAD_KERNELS,
+        EngineFault::Layout(_) => BAD_LAYOUT,
         EngineFault::NoMemory => NO_MEMORY,
     }
 }

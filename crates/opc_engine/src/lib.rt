@@ -12,6 +12,7 @@
 
 mod ask;
 mod fault;
+mod layout;
 mod limits;
 mod one_pixel;
 mod rectangle_layout;
