@@ -27,12 +27,12 @@ short_step turn out least rects i d first place at so_far placed =
     (λ p found. elim found [
       | inl among ↦ record { k = among.k; before = (let before = among.before in omega arith); below = among.below; short = among.short; is = among.is }
       | inr here ↦ (let its : IsShortPlace turn out least (get_or rects i d) (Some p) = subst (IsShortPlace turn out least (get_or rects i d)) here placed in record {
-          k = i;
-          before = omega arith;
-          below = at;
-          short = λ e. subst (IsShort out least) (get_or_default rects i d e at) its.0;
-          is = λ e. its.1 ∙ ap (lowest turn) (get_or_default rects i d e at);
-        })
+        k = i;
+        before = omega arith;
+        below = at;
+        short = λ e. subst (IsShort out least) (get_or_default rects i d e at) its.0;
+        is = λ e. its.1 ∙ ap (lowest turn) (get_or_default rects i d e at);
+      })
     ])
     (λ p among. elim (cases_order among.k i) [
       | inl same ↦ inr (placed_is turn out least (get_or rects i d) place p placed
@@ -83,21 +83,22 @@ pub short_ends : (turn out : Bool) (least : ℤ) (rects : List Rect) (i : ℕ) (
 short_ends turn out least rects i first canonical all so_far =
     IsFirst-cover (IsShortAmong turn out least rects i) (LiesInside turn out least rects) first
     (λ p among.
-        let d : Rect = record { x0 = p.x; y0 = p.x; x1 = p.x; y1 = p.x } in
-        subst (LiesInside turn out least rects) (sym (among.is d)) (lies_at_lowest turn out least rects among.k d canonical among.below (among.short d)))
+    let d : Rect = record { x0 = p.x; y0 = p.x; x1 = p.x; y1 = p.x } in
+    subst (LiesInside turn out least rects) (sym (among.is d)) (lies_at_lowest turn out least rects among.k d canonical among.below (among.short d)))
     (λ q inside.
-        let found = row_from rects inside.first inside.past (across turn q) canonical inside.run in
-        let d : Rect = record { x0 = q.x; y0 = q.x; x1 = q.x; y1 = q.x } in
-        let row = found.1 in let below = row.below in
-        let short = inside.short in let from = inside.from in
-        let starts = row.first_is d in let low = row.low d in
-        (lowest turn (get_or rects found.0 d),
-          record {
-            k = found.0;
-            before = omega arith;
-            below = row.below;
-            short = λ e. (let here = row.first_is e in let there = row.past_is e in record { short = omega (arith, ints); ends = ends_moved out inside.first inside.past (get_or rects found.0 e).x0 (get_or rects found.0 e).x1 (sym (row.first_is e)) (sym (row.past_is e)) inside.ends });
-            is = λ e. ap (lowest turn) (get_or_default rects found.0 d e row.below);
-          },
-          lowest_first turn (get_or rects found.0 d) q (omega (arith, ints)) low))
+    let found = row_from rects inside.first inside.past (across turn q) canonical inside.run in
+    let d : Rect = record { x0 = q.x; y0 = q.x; x1 = q.x; y1 = q.x } in
+    let row = found.1 in let below = row.below in
+    let short = inside.short in let from = inside.from in
+    let starts = row.first_is d in let low = row.low d in (
+      lowest turn (get_or rects found.0 d),
+      record {
+        k = found.0;
+        before = omega arith;
+        below = row.below;
+        short = λ e. (let here = row.first_is e in let there = row.past_is e in record { short = omega (arith, ints); ends = ends_moved out inside.first inside.past (get_or rects found.0 e).x0 (get_or rects found.0 e).x1 (sym (row.first_is e)) (sym (row.past_is e)) inside.ends });
+        is = λ e. ap (lowest turn) (get_or_default rects found.0 d e row.below);
+      },
+      lowest_first turn (get_or rects found.0 d) q (omega (arith, ints)) low,
+    ))
     so_far

@@ -43,6 +43,7 @@ first_narrow_breaks rules pixels p first = record {
     before M2 (Pixel q) less breaks = absurd (omega arith)
     before M3 (Pixel q) less breaks = absurd (omega arith)
     before rule (FragmentNumber k) less breaks = breaks
+
     places : (place : Place) → ComesBefore place (Pixel p) → ¬ BreaksTarget rules pixels M1 place
     places (Pixel q) comes breaks = not_before p q (first.before_all q breaks) comes
     places (FragmentNumber k) comes breaks = breaks
@@ -63,6 +64,7 @@ first_tight_breaks rules pixels p wide first = record {
     before M2 (Pixel q) less breaks = absurd (omega arith)
     before M3 (Pixel q) less breaks = absurd (omega arith)
     before rule (FragmentNumber k) less breaks = breaks
+
     places : (place : Place) → ComesBefore place (Pixel p) → ¬ BreaksTarget rules pixels M2 place
     places (Pixel q) comes breaks = not_before p q (first.before_all q breaks) comes
     places (FragmentNumber k) comes breaks = breaks
@@ -83,6 +85,7 @@ first_touch_breaks rules pixels p wide spaced touch = record {
     before M2 (Pixel q) less breaks = spaced.before_all q breaks
     before M3 (Pixel q) less breaks = absurd (omega arith)
     before rule (FragmentNumber k) less breaks = breaks
+
     places : (place : Place) → ComesBefore place (Pixel p) → ¬ BreaksTarget rules pixels M3 place
     places (Pixel q) comes breaks = touch.1 q.x q.y comes breaks
     places (FragmentNumber k) comes breaks = breaks

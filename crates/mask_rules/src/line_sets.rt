@@ -16,12 +16,7 @@ pub const LIMIT: i32 = 1_048_576;
 
 /// The canonical rectangles of the set, or of the pixels within the limit that are not in it; where they are turned,
 /// with rows for columns.
-pub fn line_rects(
-    alloc: Global,
-    rects: &[Rect],
-    turn: bool,
-    out: bool,
-) -> Result<Region, NoMemory>
+pub fn line_rects(alloc: Global, rects: &[Rect], turn: bool, out: bool) -> Result<Region, NoMemory>
     requires canonical { AreCanonical rects.now }
     requires within { All (IsRectWithin 1048576) rects.now }
     ensures within { IfOk result (All (IsRectWithin 1048576)) }

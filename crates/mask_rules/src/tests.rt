@@ -6,9 +6,7 @@ ghost use Rattle.opc_base.specs.Cover.{IsPlaced};
 ghost use Rattle.opc_base.specs.Plane.{IsRectWithin};
 
 use super::*;
-use opc_base::{
-    Broken, MaskRules, NoMemory, Outline, Pix, Place, Placed, Rect, Rects, RuleName,
-};
+use opc_base::{Broken, MaskRules, NoMemory, Outline, Pix, Place, Placed, Rect, Rects, RuleName};
 use rect_union::{UnionFault, union};
 use std::alloc::Global;
 use std::test::Fail;

@@ -11,8 +11,10 @@ returns c =
     let least_fits : SFits w32 c.args.least = c.ranges.least in
     let pixels : (x y : ℤ) → cover c.rects.result.now x y ≡ line_set c.args.turn c.args.out (cover c.args.rects.now) x y = rw c.rects.ensures.list c.in_ok-region.ensures.pixels in
     let first = simp to_z-of_z at c.first_inside-place.ensures.first in
-    record { first = IsFirst-same (LiesInside c.args.turn c.args.out c.args.least c.rects.result.now) (LiesInShortLine c.args.turn c.args.out (cover c.args.rects.now) c.args.least)
-        c.first_inside-place.result
-        (short_if_inside c.args.turn c.args.out c.args.rects.now c.rects.result.now c.args.least pixels)
-        (inside_if_short c.args.turn c.args.out c.args.rects.now c.rects.result.now c.args.least c.requires.within pixels)
-        first }
+    record {
+      first = IsFirst-same (LiesInside c.args.turn c.args.out c.args.least c.rects.result.now) (LiesInShortLine c.args.turn c.args.out (cover c.args.rects.now) c.args.least)
+          c.first_inside-place.result
+          (short_if_inside c.args.turn c.args.out c.args.rects.now c.rects.result.now c.args.least pixels)
+          (inside_if_short c.args.turn c.args.out c.args.rects.now c.rects.result.now c.args.least c.requires.within pixels)
+          first;
+    }
