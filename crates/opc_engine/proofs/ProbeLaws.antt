@@ -12,23 +12,16 @@ use Rattle.gds_model.specs.Library.{StreamLibrary, IsLibraryOf, IsLayout, names}
 use Rattle.gds_records.specs.Records.{StreamRecord}
 use Rattle.gds_model.proofs.OneFault.{one_fault, no_fault}
 use Rattle.gds_model.proofs.Layouts.{library_is_layout}
-use Rattle.gds_library.proofs.Drafting.{library_taken}
-use Rattle.gds_library.specs.Gathered.{with_records, nothing_gathered}
+use Rattle.gds_library.proofs.OneLibrary.{one_library}
 use Rattle.opc_engine.specs.declared.ask.Ask.{Ask}
 use Rattle.opc_engine.specs.declared.fault.EngineFault.{EngineFault}
 use Rattle.opc_engine.specs.declared.fault.EngineFault.TheVariants.{Layout}
 use Rattle.opc_engine.specs.declared.limits.TheConstants.{MAX_LAYOUT, MAX_KERNELS}
 use Rattle.opc_engine.specs.Probe.{kernel_result, IsNamed, top_rectangles, or_not_yet, StructuresGive, BytesGive, LayoutGives, intensity_over, ProbeOver, ProbeGives, IsProbeAnswer, IsProbeRefusal}
 
--- ---- one library
+-- ---- the structure that is asked for
 
--- a file has one library
-pub one_library : (bytes : List ℕ) (l m : StreamLibrary) → IsLibraryOf bytes l → IsLibraryOf bytes m → l ≡ m
-one_library bytes l m p q =
-    p.same ∙ sym (library_taken p.tree) ∙ ap (λ rs. (with_records nothing_gathered rs).library) (p.spelled ∙ sym q.spelled)
-    ∙ library_taken q.tree ∙ sym q.same
-
--- and that library has distinct names
+-- the library of a file has distinct names
 pub library_layout : (bytes : List ℕ) (l : StreamLibrary) → HasNoFault bytes → IsLibraryOf bytes l → IsLayout l
 library_layout bytes l fine p =
     let P : List StreamRecord → Type 0 = λ rs. AllFine [] rs in
