@@ -64,3 +64,46 @@ pub const ONES: [u8; 9] = [1; 9];
 
 /// The kernel whose nine entries are 1 to 9, in the order of the file.
 pub const NINE: [u8; 9] = [1, 2, 3, 4, 5, 6, 7, 8, 9];
+
+/// A kernel file of the second format: one kernel of reach 1 and weight 1, whose nine entries are equal. The transmissions
+/// are the parts of the covered one and then of the uncovered one.
+pub fn masked_kernel_of(
+    alloc: Global,
+    transmissions: &[i16; 4],
+    entry: &[i16; 2],
+) -> Result<Vec<u8>, NoMemory> {
+    let mut out = b"OPK2\x00\x01\x00\x01".to_vec(alloc)?;
+    for part in transmissions {
+        out.extend_from_slice(&part.to_be_bytes())?;
+    }
+    out.extend_from_slice(&[0, 1])?;
+    for _ in 0..9 {
+        out.extend_from_slice(&entry[0].to_be_bytes())?;
+        out.extend_from_slice(&entry[1].to_be_bytes())?;
+    }
+    Ok(out)
+}
+
+/// The largest kernel file with this head: 16 kernels of reach 64, of which the first has this weight and all others
+/// weight 128, and equal entries.
+pub fn largest_kernels(
+    alloc: Global,
+    head: &[u8],
+    first: u8,
+    entry: &[u8; 4],
+) -> Result<Vec<u8>, NoMemory> {
+    let mut out = head.to_vec(alloc)?;
+    for kernel in 0..16 {
+        out.extend_from_slice(&[0, if kernel == 0 { first } else { 128 }])?;
+        put_entries(&mut out, entry)?;
+    }
+    Ok(out)
+}
+
+/// The entries of a kernel of reach 64, all equal.
+fn put_entries(out: &mut Vec<u8>, entry: &[u8; 4]) -> Result<(), NoMemory> {
+    for _ in 0..129 * 129 {
+        out.extend_from_slice(entry)?;
+    }
+    Ok(())
+}

@@ -8,6 +8,10 @@
 pub mod files;
 pub mod hosts;
 #[cfg(test)]
+mod kernel_rows;
+#[cfg(test)]
+mod layout_rows;
+#[cfg(test)]
 mod order_rows;
 #[cfg(test)]
 mod probe_rows;

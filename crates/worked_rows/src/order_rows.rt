@@ -19,12 +19,10 @@ fn cut_kernel(alloc: Global) -> Result<Vec<u8>, NoMemory> {
 fn files_that_are_refused(rt: HostRuntime) -> Result<(), NoMemory> {
     let alloc = rt.alloc();
     let layout = layout_of(alloc, &[SQUARE])?;
-    let mut padded = layout_of(alloc, &[SQUARE])?;
-    padded.push(0)?;
     let kernels = kernel_of(alloc, &ONES)?;
     let cut = cut_kernel(alloc)?;
     let long = vec![in alloc; 0u8; 1_065_073]?;
-    let no_layout = (5, "opc: layout: not yet\n");
+    let no_layout = (5, "opc: layout: bad length at 0\n");
     let wrong = (6, "opc: kernels: wrong length\n");
     let too_long = (6, "opc: kernels: too long\n");
     let unread = (3, "opc: cannot read none\n");
@@ -32,7 +30,13 @@ fn files_that_are_refused(rt: HostRuntime) -> Result<(), NoMemory> {
     check_calm(&rt, alloc, PROBE, (b"no layout", &cut), wrong)?;
     check_calm(&rt, alloc, PROBE, (b"no layout", &long), too_long)?;
     check_calm(&rt, alloc, PROBE, (b"no layout", &kernels), no_layout)?;
-    check_calm(&rt, alloc, PROBE, (&padded, &kernels), no_layout)?;
+    check_calm(
+        &rt,
+        alloc,
+        "probe layout kernels NONE 1 0 5 5",
+        (&layout, &kernels),
+        (5, "opc: layout: not yet\n"),
+    )?;
     check_calm(
         &rt,
         alloc,
