@@ -30,6 +30,8 @@ mod open_element;
 mod progress;
 mod reader;
 #[cfg(test)]
+mod record_tests;
+#[cfg(test)]
 mod samples;
 mod state;
 #[cfg(test)]

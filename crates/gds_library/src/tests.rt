@@ -6,7 +6,7 @@ use std::alloc::Global;
 use std::test::Fail;
 
 /// The fault of a file, if it has one.
-fn fault_of(alloc: Global, bytes: &[u8]) -> Option<LayoutFault> {
+pub fn fault_of(alloc: Global, bytes: &[u8]) -> Option<LayoutFault> {
     match read_library(alloc, bytes) {
         Ok(_) => None,
         Err(fault) => Some(fault),
