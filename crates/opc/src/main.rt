@@ -4,8 +4,8 @@
 mod file_host;
 
 use file_host::FileHost;
-use opc_base::NoWatch;
-use opc_cli::opc_run;
+use opc_base::{NoMemory, NoWatch};
+use opc_cli::{opc_run, say_no_memory};
 use std::env;
 use std::env::Env;
 use std::process::ExitCode;
@@ -14,18 +14,22 @@ use std::process::ExitCode;
 const NO_WORDS: u8 = 1;
 
 fn main(rt: HostRuntime) -> ExitCode {
-    let Some(words) = words_after_name(&rt) else {
-        return ExitCode::from(NO_WORDS);
-    };
     let mut host = FileHost::new(&rt);
-    ExitCode::from(opc_run(&rt, rt.alloc(), &words, &mut host, &NoWatch))
+    match words_after_name(&rt) {
+        Ok(Some(words)) => { ExitCode::from(opc_run(&rt, rt.alloc(), &words, &mut host, &NoWatch)) }
+        Ok(None) => ExitCode::from(NO_WORDS),
+        Err(NoMemory) => ExitCode::from(say_no_memory(rt.alloc(), &mut host)),
+    }
 }
 
-/// The words after the program's own name.
-fn words_after_name<R: Env + AllocGlobal>(rt: &R) -> Option<Vec<String>> {
+/// The words after the program's own name, where the runtime gives any.
+fn words_after_name<R: Env + AllocGlobal>(rt: &R) -> Result<Option<Vec<String>>, NoMemory> {
+    let Ok(all) = env::args(rt) else {
+        return Ok(None);
+    };
     let mut words = Vec::new(rt.alloc());
-    for word in env::args(rt).ok()?.skip(1) {
-        words.push(word).ok()?;
+    for word in all.skip(1) {
+        words.push(word)?;
     }
-    Some(words)
+    Ok(Some(words))
 }

@@ -69,8 +69,8 @@ fn status_of(stop: &Stop<'_>) -> u8
     }
 }
 
-/// Says that memory ran out, as far as that can be said.
-fn say_no_memory<H: Host>(alloc: Global, host: &mut H) -> u8
+/// Says that memory ran out, as far as that can be said, and answers its status.
+pub fn say_no_memory<H: Host>(alloc: Global, host: &mut H) -> u8
     ensures status { result ≡ NO_MEMORY }
     ensures line { SaysMemoryLine (H.outside host.old) (H.outside host.new) }
     ensures rest { Says (H.outside host.old) (H.outside host.new) }
