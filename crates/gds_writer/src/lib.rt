@@ -1,0 +1,27 @@
+//! The mask file: a stream file (Stream Format Manual 6.0) with one structure, which has a BOUNDARY for each canonical
+//! rectangle of the mask.
+//!
+//! ```text
+//! HEADER BGNLIB LIBNAME UNITS              as in the layout
+//!   BGNSTR STRNAME                         the dates of the layout, the name of the mask's structure
+//!     BOUNDARY LAYER DATATYPE XY ENDEL     64 bytes for each rectangle
+//!   ENDSTR
+//! ENDLIB
+//! ```
+//!
+//! A caller holds the head of the layout that it read, and the mask's region:
+//!
+//! ```text
+//! let file = write_mask(alloc, library.head(), &mask, &rules.out, rules.pick.grid)?;
+//! ```
+//!
+//! The clause `file` of `write_mask` says each byte, by the definitions in `specs/MaskFile.antt`.
+#![tactic(auto)]
+
+mod boundary;
+mod mask;
+mod opening;
+
+
+
+pub use mask::write_mask;

@@ -1,0 +1,39 @@
+//! The whole file.
+ghost use Rattle.std.specs.Prelude.{◌≡◌, ◌≤◌, ◌%◌, pos, length, All, IfOk};
+ghost use Rattle.opc_base.specs.Plane.{IsRectWithin};
+ghost use Rattle.opc_base.specs.Ranges.{IsBetween};
+ghost use Rattle.gds_writer.specs.MaskFile.{mask_file};
+
+use crate::boundary::put_boundary;
+use crate::opening::put_opening;
+use gds_records::{Head, put_record};
+use opc_base::{Bytes, NoMemory, OutPick, Region};
+use std::alloc::Global;
+
+/// The mask file of a region: the head of the layout, and one structure with a BOUNDARY for each canonical rectangle.
+/// `grid` is the number of database units in a pixel.
+pub fn write_mask(
+    alloc: Global,
+    head: &Head,
+    region: &Region,
+    out: &OutPick,
+    grid: i32,
+) -> Result<Bytes, NoMemory>
+    requires header { length head.now.header ≡ 2 }
+    requires dates { length head.now.dates ≡ 24 }
+    requires name_even { length head.now.name % 2 ≡ 0 }
+    requires name_fits { length head.now.name ≤ 65530 }
+    requires units { length head.now.units ≡ 16 }
+    requires rects { All (IsRectWithin 1048128) region.now }
+    requires grid { IsBetween (pos 1) (pos 1000) grid }
+    ensures file { IfOk result (λ bytes. bytes ≡ mask_file head.now out.now grid region.now) }
+{
+    let mut file = Bytes::from_vec(Vec::new(alloc));
+    put_opening(alloc, &mut file, head, out)?;
+    for rect in region.rects() {
+        put_boundary(alloc, &mut file, out, rect, grid)?;
+    }
+    put_record(alloc, &mut file, 0x07, 0x00, &[])?;
+    put_record(alloc, &mut file, 0x04, 0x00, &[])?;
+    Ok(file)
+}
