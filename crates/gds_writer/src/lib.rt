@@ -21,7 +21,7 @@
 mod boundary;
 mod mask;
 mod opening;
-
-
+#[cfg(test)]
+mod tests;
 
 pub use mask::write_mask;
