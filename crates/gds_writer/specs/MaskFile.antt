@@ -1,11 +1,12 @@
 -- The bytes of a mask file.
-use Rattle.std.specs.Prelude.{ℕ, ℤ, ◌*ℤ◌, ◌/◌, ◌%◌, ◌==◌, if◌then◌else◌, List, [], ◌∷◌, ◌++◌, length}
+use Rattle.std.specs.Prelude.{ℕ, ℤ, ◌+◌, ◌*ℤ◌, ◌/◌, ◌%◌, ◌==◌, if◌then◌else◌, List, [], ◌∷◌, ◌++◌, length}
 use Rattle.std.specs.List.{flat_map}
 use Rattle.std.specs.Int.{w16, w32, cast_unsigned, to_be_bytes}
 use Rattle.opc_base.specs.declared.plane.Pix.{Pix}
 use Rattle.opc_base.specs.declared.plane.Rect.{Rect}
 use Rattle.opc_base.specs.declared.rules.OutPick.{OutPick}
 use Rattle.gds_records.specs.declared.library_head.Head.{Head}
+use Rattle.gds_records.specs.Records.{StreamRecord}
 use Rattle.gds_records.specs.Written.{record_bytes}
 use Rattle.gds_model.specs.declared.record_kind.RecordKind.{RecordKind}
 use Rattle.gds_model.specs.declared.record_kind.RecordKind.TheVariants.{Header, BgnLib, LibName, Units, EndLib, BgnStr, StrName, EndStr, Boundary, Layer, Datatype, Xy, EndEl}
@@ -60,3 +61,8 @@ mask_records head out grid rects = opening head out ++ (flat_map (boundary out g
 -- the mask file of these rectangles
 abbrev pub mask_file : Head → OutPick → ℤ → List Rect → List ℕ
 mask_file head out grid rects = bytes_of (mask_records head out grid rects)
+
+-- these records one after another from an offset on, as they are read
+abbrev pub standing : ℕ → List MaskRecord → List StreamRecord
+standing at [] = []
+standing at (r ∷ rs) = record { offset = at; code = code_of r.kind; body = r.body } ∷ standing (at + 4 + length r.body) rs

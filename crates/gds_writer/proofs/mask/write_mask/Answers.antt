@@ -6,6 +6,8 @@ use Rattle.opc_base.specs.declared.plane.Rect.{Rect}
 use Rattle.gds_model.specs.declared.record_kind.RecordKind.TheVariants.{EndStr, EndLib}
 use Rattle.gds_writer.specs.MaskFile.{MaskRecord, boundary, bytes_of, opening, closing}
 use Rattle.gds_writer.proofs.Growing.{Grew, grew_nothing, grew_again, one_more, one_item_more}
+use Rattle.gds_records.specs.Records.{records_from}
+use Rattle.gds_writer.proofs.ReadBack.{mask_read_back}
 use Rattle.gds_writer.proofs.mask.write_mask.Goals as goal
 
 pub loop-rect-preserved : goal.loop-rect-preserved
@@ -33,4 +35,6 @@ returns c =
     let ended = one_more c.put_record.new.out EndStr [] (grew_nothing c.loop-rect.file) refl c.in_ok-put_record.ensures.appended in
     let closed = one_more c.put_record-2.new.out EndLib [] ended refl c.in_ok-put_record-2.ensures.appended in
     let whole = grew_again [] _ _ (opened ++ elements) closing begun closed in
-    record { file = whole.by }
+    let args = c.requires in
+    let records = mask_read_back c.args.head.now out c.args.grid rects args.header args.dates args.name_even args.units in
+    record { file = whole.by; records = ap (λ bytes. records_from bytes 0) whole.by ∙ records }
