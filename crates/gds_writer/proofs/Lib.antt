@@ -1,2 +1,4 @@
 pub mod Growing
 pub mod ReadBack
+pub mod Sentence
+pub mod Described

@@ -1,1 +1,2 @@
 pub mod MaskFile
+pub mod MaskLibrary

@@ -1,5 +1,6 @@
 //! The element of a rectangle.
-ghost use Rattle.std.specs.Prelude.{◌≡◌, ◌≤◌, ◌++◌, pos, IfOk, OnOk};
+ghost use Rattle.std.specs.Prelude.{◌≡◌, ◌<◌, ◌≤◌, ◌++◌, pos, IfOk, OnOk};
+ghost use Rattle.std.specs.Int.{w16, to_be_bytes};
 ghost use Rattle.std.specs.List.{flat_map};
 ghost use Rattle.opc_base.specs.Plane.{IsPixWithin, IsRectWithin};
 ghost use Rattle.opc_base.specs.Ranges.{IsBetween};
@@ -19,14 +20,25 @@ pub fn put_boundary(
 ) -> Result<(), NoMemory>
     requires rect { IsRectWithin 1048128 rect.now }
     requires grid { IsBetween (pos 1) (pos 1000) grid }
-    ensures { OnOk result (file.new ≡ file.old ++ bytes_of (boundary out.now grid rect.now)) }
+    ensures written { OnOk result (file.new ≡ file.old ++ bytes_of (boundary out.now grid rect.now)) }
+    ensures fits { (out.now.layer < 65536) × (out.now.datatype < 65536) }
 {
+    let layer = number_bytes(out.layer);
+    let datatype = number_bytes(out.datatype);
     let points = outline_bytes(alloc, rect, grid)?;
     put_record(alloc, file, 0x08, 0x00, &[])?;
-    put_record(alloc, file, 0x0D, 0x02, &out.layer.to_be_bytes())?;
-    put_record(alloc, file, 0x0E, 0x02, &out.datatype.to_be_bytes())?;
+    put_record(alloc, file, 0x0D, 0x02, &layer)?;
+    put_record(alloc, file, 0x0E, 0x02, &datatype)?;
     put_record(alloc, file, 0x10, 0x03, points.as_slice())?;
     put_record(alloc, file, 0x11, 0x00, &[])
+}
+
+/// A number of two bytes, which says with them that it fits.
+fn number_bytes(number: u16) -> [u8; 2]
+    ensures bytes { result ≡ to_be_bytes w16 number }
+    ensures fits { number < 65536 }
+{
+    number.to_be_bytes()
 }
 
 /// The points around a rectangle.

@@ -3,6 +3,8 @@ ghost use Rattle.std.specs.Prelude.{◌≡◌, ◌≤◌, ◌%◌, pos, length, 
 ghost use Rattle.opc_base.specs.Plane.{IsRectWithin};
 ghost use Rattle.opc_base.specs.Ranges.{IsBetween};
 ghost use Rattle.gds_records.specs.Records.{records_from};
+ghost use Rattle.gds_model.specs.Library.{IsLibraryOf};
+ghost use Rattle.gds_writer.specs.MaskLibrary.{mask_library};
 ghost use Rattle.gds_writer.specs.MaskFile.{mask_file, mask_records, standing};
 
 use crate::boundary::put_boundary;
@@ -29,6 +31,7 @@ pub fn write_mask(
     requires grid { IsBetween (pos 1) (pos 1000) grid }
     ensures file { IfOk result (λ bytes. bytes ≡ mask_file head.now out.now grid region.now) }
     ensures records { IfOk result (λ bytes. records_from bytes 0 ≡ standing 0 (mask_records head.now out.now grid region.now)) }
+    ensures library { IfOk result (λ bytes. IsLibraryOf bytes (mask_library head.now out.now grid region.now)) }
 {
     let mut file = Bytes::from_vec(Vec::new(alloc));
     put_opening(alloc, &mut file, head, out)?;
