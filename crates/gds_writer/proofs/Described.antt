@@ -1,5 +1,5 @@
 -- The library that the records of a mask file describe.
-use Rattle.std.proofs.Common.{◌≡◌, ◌≢◌, ℕ, ◌+◌, ◌*◌, ◌/◌, ◌%◌, ◌<◌, ◌≤◌, ◌==◌, Bool, true, false, cond, List, [], ◌∷◌, ◌++◌, length, refl, ap, sym, ◌∙◌, subst, arith, FitsSigned, w32}
+use Rattle.std.proofs.Common.{◌≡◌, ◌≢◌, ℕ, ◌+◌, ◌*◌, ◌/◌, ◌%◌, ◌<◌, ◌≤◌, ◌==◌, Bool, true, false, cond, List, [], ◌∷◌, ◌++◌, length, refl, ap, ◌∙◌, subst, arith, FitsSigned, w32}
 use Rattle.std.specs.Prelude.{ℤ, pos, ◌*ℤ◌, map, All, IsTrue, unsigned_abs}
 use Rattle.std.specs.List.{flat_map}
 use Rattle.std.specs.Int.{w16, to_be_bytes, cast_signed, cast_unsigned}
@@ -14,14 +14,14 @@ use Rattle.opc_base.specs.Plane.{IsPixWithin, IsRectWithin}
 use Rattle.opc_base.specs.Ranges.{IsBetween, is_name_byte}
 use Rattle.gds_records.specs.declared.library_head.Head.{Head}
 use Rattle.gds_records.specs.declared.points.Point.{Point}
-use Rattle.gds_records.specs.Numbers.{two_bytes, four_bytes, signed_four}
+use Rattle.gds_records.specs.Numbers.{two_bytes, signed_four}
 use Rattle.gds_model.specs.declared.elements.Element.{Element}
 use Rattle.gds_model.specs.declared.elements.Element.TheVariants as element
 use Rattle.gds_model.specs.declared.shape.ShapeKind.TheVariants as shape_kind
 use Rattle.gds_model.specs.Elements.{points_in}
 use Rattle.gds_model.specs.Library.{StreamLibrary, elements_of, library_of}
-use Rattle.gds_model.specs.Names.{has_nonzero, name_of}
-use Rattle.gds_writer.specs.MaskFile.{padded, point_bytes, around, boundary, opening}
+use Rattle.gds_model.specs.Names.{name_of}
+use Rattle.gds_writer.specs.MaskFile.{point_bytes, around, boundary, opening}
 use Rattle.gds_writer.specs.MaskLibrary.{point_of, shapes, first_shape, mask_library}
 use Rattle.gds_writer.proofs.Sentence.{after, element_tree, element_trees, mask_tree}
 

@@ -7,13 +7,13 @@ use Rattle.std.proofs.lemmas.Bool.Decides.{nat_tests}
 use Rattle.opc_base.specs.declared.plane.Rect.{Rect}
 use Rattle.opc_base.specs.declared.rules.OutPick.{OutPick}
 use Rattle.gds_records.specs.declared.library_head.Head.{Head}
-use Rattle.gds_records.specs.Records.{StreamRecord, StandsAt, ENDLIB, end_of, records_from}
+use Rattle.gds_records.specs.Records.{StandsAt, ENDLIB, records_from}
 use Rattle.gds_records.specs.Written.{record_bytes}
 use Rattle.gds_records.proofs.RecordsLemmas.{record_at-some, records_from-some}
 use Rattle.gds_records.proofs.WrittenLemmas.{written_stands}
 use Rattle.gds_model.specs.declared.record_kind.RecordKind.TheVariants.{EndStr, EndLib}
 use Rattle.gds_model.specs.RecordKind.{code_of}
-use Rattle.gds_writer.specs.MaskFile.{MaskRecord, record_of, bytes_of, padded, boundary, opening, closing, mask_records, mask_file, standing}
+use Rattle.gds_writer.specs.MaskFile.{MaskRecord, record_of, bytes_of, padded, boundary, opening, mask_records, mask_file, standing}
 
 -- each body has an even length, and no record is ENDLIB
 abbrev pub CanGoOn : List MaskRecord → Type 0

@@ -1,6 +1,6 @@
 -- The records of a mask file are a sentence of the grammar, and its library.
-use Rattle.std.proofs.Common.{◌≡◌, ℕ, ◌+◌, ◌*◌, ◌/◌, ◌%◌, ◌<◌, List, [], ◌∷◌, ◌++◌, None, length, refl, ap, sym, ◌∙◌, arith, inl, append_assoc}
-use Rattle.std.specs.Prelude.{ℤ, ◌*ℤ◌, map}
+use Rattle.std.proofs.Common.{◌≡◌, ℕ, ◌+◌, List, [], ◌∷◌, ◌++◌, None, length, refl, ap, sym, ◌∙◌, inl, append_assoc}
+use Rattle.std.specs.Prelude.{ℤ}
 use Rattle.std.specs.List.{flat_map}
 use Rattle.std.specs.Int.{w16, to_be_bytes}
 use Rattle.std.proofs.lemmas.List.{append-nil}
@@ -11,7 +11,7 @@ use Rattle.gds_records.specs.Records.{StreamRecord}
 use Rattle.gds_model.specs.Grammar.{Content, Tree, records_of}
 use Rattle.gds_model.specs.StreamFile as file
 use Rattle.gds_model.specs.RecordKind.{code_of}
-use Rattle.gds_writer.specs.MaskFile.{MaskRecord, record_of, bytes_of, padded, point_bytes, around, boundary, opening, closing, mask_records, mask_file, standing}
+use Rattle.gds_writer.specs.MaskFile.{MaskRecord, padded, point_bytes, around, boundary, opening, closing, mask_records, standing}
 
 abbrev content : ℕ → List ℕ → Content
 content at body = record { offset = at; body = body }

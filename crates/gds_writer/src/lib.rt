@@ -15,7 +15,9 @@
 //! let file = write_mask(alloc, library.head(), &mask, &rules.out, rules.pick.grid)?;
 //! ```
 //!
-//! The clause `file` of `write_mask` says each byte, by the definitions in `specs/MaskFile.antt`.
+//! The clauses of `write_mask` say each byte (`file`, by `specs/MaskFile.antt`), that the file has exactly these records
+//! (`records`), and that they are a sentence of the grammar, whose library has one structure with a BOUNDARY for each
+//! rectangle (`library`, by `specs/MaskLibrary.antt`).
 #![tactic(auto)]
 
 mod boundary;

@@ -1,4 +1,4 @@
-use Rattle.std.proofs.Common.{rules, sym, arith, length, ◌<◌, ◌≤◌, ◌≡◌, ◌∙◌, ◌++◌, ap, refl, [], take, get_or, pos, ℤ, List, FitsSigned, w32, to_z, of_z}
+use Rattle.std.proofs.Common.{sym, arith, length, ◌<◌, ◌≤◌, ◌≡◌, ◌∙◌, ◌++◌, ap, refl, [], take, get_or, pos, List, FitsSigned, w32, to_z, of_z}
 use Rattle.std.specs.List.{flat_map}
 use Rattle.std.proofs.lemmas.Int.{to_z-of_z}
 use Rattle.std.proofs.lemmas.List.{take_all}

@@ -1,8 +1,8 @@
-use Rattle.std.proofs.Common.{◌≡◌, [], ◌∙◌}
+use Rattle.std.proofs.Common.{◌≡◌, ◌∙◌}
 use Rattle.std.proofs.lemmas.Result.{on_ok_weaker}
 use Rattle.gds_model.specs.declared.record_kind.RecordKind.TheVariants.{Header, BgnLib, LibName, Units, BgnStr, StrName}
-use Rattle.gds_writer.specs.MaskFile.{padded, opening}
-use Rattle.gds_writer.proofs.Growing.{Grew, grew_nothing, one_more}
+use Rattle.gds_writer.specs.MaskFile.{padded}
+use Rattle.gds_writer.proofs.Growing.{grew_nothing, one_more}
 use Rattle.gds_writer.proofs.opening.put_opening.Goals as goal
 
 pub returns : goal.returns
