@@ -2,3 +2,4 @@ pub mod Growing
 pub mod ReadBack
 pub mod Sentence
 pub mod Described
+pub mod Covered
