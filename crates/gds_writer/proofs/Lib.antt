@@ -3,3 +3,4 @@ pub mod ReadBack
 pub mod Sentence
 pub mod Described
 pub mod Covered
+pub mod Expands

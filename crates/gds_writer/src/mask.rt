@@ -1,9 +1,10 @@
 //! The whole file.
 ghost use Rattle.std.specs.Prelude.{◌≡◌, ◌≤◌, ◌%◌, pos, length, All, IfOk};
-ghost use Rattle.opc_base.specs.Plane.{IsRectWithin};
+ghost use Rattle.opc_base.specs.Plane.{IsRectWithin, cover};
 ghost use Rattle.opc_base.specs.Ranges.{IsBetween};
 ghost use Rattle.gds_records.specs.Records.{records_from};
 ghost use Rattle.gds_model.specs.Library.{IsLibraryOf};
+ghost use Rattle.gds_writer.specs.Expansion.{ExpandsTo};
 ghost use Rattle.gds_writer.specs.MaskLibrary.{mask_library};
 ghost use Rattle.gds_writer.specs.MaskFile.{mask_file, mask_records, standing};
 
@@ -32,6 +33,7 @@ pub fn write_mask(
     ensures file { IfOk result (λ bytes. bytes ≡ mask_file head.now out.now grid region.now) }
     ensures records { IfOk result (λ bytes. records_from bytes 0 ≡ standing 0 (mask_records head.now out.now grid region.now)) }
     ensures library { IfOk result (λ bytes. IsLibraryOf bytes (mask_library head.now out.now grid region.now)) }
+    ensures expands { IfOk result (λ bytes. ExpandsTo bytes out.now.name out.now.layer out.now.datatype grid (cover region.now)) }
 {
     let mut file = Bytes::from_vec(Vec::new(alloc));
     put_opening(alloc, &mut file, head, out)?;

@@ -10,6 +10,9 @@ use Rattle.gds_records.specs.Records.{records_from}
 use Rattle.gds_writer.proofs.ReadBack.{mask_read_back}
 use Rattle.gds_writer.proofs.Sentence.{mask_tree, mask-spelled}
 use Rattle.gds_writer.proofs.Described.{mask-described}
+use Rattle.gds_model.specs.Library.{IsLibraryOf}
+use Rattle.gds_writer.specs.MaskLibrary.{mask_library}
+use Rattle.gds_writer.proofs.Expands.{mask-expands}
 use Rattle.gds_writer.proofs.mask.write_mask.Goals as goal
 
 pub loop-rect-preserved : goal.loop-rect-preserved
@@ -43,12 +46,20 @@ returns c =
     let read = ap (λ bytes. records_from bytes 0) whole.by ∙ records in
     let all : length rects ≤ c.loop-rect.rect-index = rw c.rects-rect-items.ensures.list at c.loop-rect-test.false in
     let numbers : 0 < length rects → (out.layer < 65536) × (out.datatype < 65536) = λ some. c.loop-rect.invariant.fits (omega (arith, some, all)) in
+    let layout = mask_library c.args.head.now out c.args.grid rects in
+    let described : IsLibraryOf c.put_record-2.new.out layout = record {
+      tree = mask_tree c.args.head.now out c.args.grid rects;
+      spelled = mask-spelled c.args.head.now out c.args.grid rects ∙ sym read;
+      same = sym (mask-described c.args.head.now out c.args.grid rects args.header args.dates args.units numbers args.rects args.grid);
+    } in
     record {
       file = whole.by;
       records = read;
-      library = record {
-        tree = mask_tree c.args.head.now out c.args.grid rects;
-        spelled = mask-spelled c.args.head.now out c.args.grid rects ∙ sym read;
-        same = sym (mask-described c.args.head.now out c.args.grid rects args.header args.dates args.units numbers args.rects args.grid);
+      library = described;
+      expands = record {
+        layout = layout;
+        reading = described;
+        top = refl;
+        covered = λ x y. mask-expands c.args.head.now out c.args.grid rects x y args.grid.0 c.rects-rect-items.ensures.canonical.solid;
       };
     }
