@@ -1,10 +1,9 @@
 -- The mask file expands to the pixels of its rectangles.
-use Rattle.std.proofs.Common.{◌≡◌, ℕ, ◌+◌, ℤ, pos, negsuc, ◌<◌, ◌+ℤ◌, ◌-ℤ◌, ◌*ℤ◌, ◌≤ℤ◌, ◌<ℤ◌, unsigned_abs, Bool, true, ◌&&◌, ◌==◌, ◌||◌, cond, List, [], ◌∷◌, ◌++◌, zero, suc, map, All, refl, ap, ap₂, sym, ◌∙◌, arith, add-one, eq-eqb}
+use Rattle.std.proofs.Common.{◌≡◌, ℕ, ◌+◌, ℤ, pos, negsuc, ◌<◌, ◌+ℤ◌, ◌-ℤ◌, ◌*ℤ◌, ◌≤ℤ◌, ◌<ℤ◌, unsigned_abs, true, ◌&&◌, ◌==◌, ◌||◌, List, [], ◌∷◌, zero, suc, map, All, refl, ap, ap₂, ◌∙◌, arith, add-one, eq-eqb}
 use Rattle.std.specs.List.{flat_map}
 use Rattle.std.specs.Int.RustNames.{int_div, int_rem}
 use Rattle.std.proofs.Math.IntN.{suc_ℤ, suc_ℤ-*ℤ}
 use Rattle.std.proofs.lemmas.Int.{ints, quot-rem, rem_below, by_lt_z}
-use Rattle.std.proofs.lemmas.List.{append-nil}
 use Rattle.std.proofs.lemmas.List.Elements.{All-head, All-tail}
 use Rattle.opc_base.specs.declared.plane.Rect.{Rect}
 use Rattle.opc_base.specs.declared.plane.Pix.{Pix}
@@ -17,7 +16,7 @@ use Rattle.opc_base.specs.Target.{target}
 use Rattle.gds_records.specs.declared.library_head.Head.{Head}
 use Rattle.gds_model.specs.declared.elements.Structure.{Structure}
 use Rattle.gds_model.specs.Outlines.{outline_of, pixel_at, position_of}
-use Rattle.gds_model.specs.PlacedList.{Mapped, is_on, placed_by, placed_in, placed_list}
+use Rattle.gds_model.specs.PlacedList.{Mapped, is_on, placed_by, placed_in}
 use Rattle.gds_writer.specs.MaskFile.{around}
 use Rattle.gds_writer.specs.MaskLibrary.{point_of, shapes, first_shape, mask_library}
 use Rattle.gds_writer.specs.Expansion.{expansion}
