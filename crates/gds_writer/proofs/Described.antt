@@ -1,0 +1,110 @@
+-- The library that the records of a mask file describe.
+use Rattle.std.proofs.Common.{◌≡◌, ◌≢◌, ℕ, ◌+◌, ◌*◌, ◌/◌, ◌%◌, ◌<◌, ◌≤◌, ◌==◌, Bool, true, false, cond, List, [], ◌∷◌, ◌++◌, length, refl, ap, ◌∙◌, subst, arith, FitsSigned, w32}
+use Rattle.std.specs.Prelude.{ℤ, pos, ◌*ℤ◌, map, All, IsTrue, unsigned_abs}
+use Rattle.std.specs.List.{flat_map}
+use Rattle.std.specs.Int.{w16, to_be_bytes, cast_signed, cast_unsigned}
+use Rattle.std.proofs.Math.Facts.{Fits-of_z}
+use Rattle.std.proofs.lemmas.Bool.{ne_eqb}
+use Rattle.std.proofs.lemmas.Int.{to_z-of_z, fits_signed_mul, ints}
+use Rattle.std.proofs.lemmas.List.Elements.{All-head, All-tail}
+use Rattle.opc_base.specs.declared.plane.Pix.{Pix}
+use Rattle.opc_base.specs.declared.plane.Rect.{Rect}
+use Rattle.opc_base.specs.declared.rules.OutPick.{OutPick}
+use Rattle.opc_base.specs.Plane.{IsPixWithin, IsRectWithin}
+use Rattle.opc_base.specs.Ranges.{IsBetween, is_name_byte}
+use Rattle.gds_records.specs.declared.library_head.Head.{Head}
+use Rattle.gds_records.specs.declared.points.Point.{Point}
+use Rattle.gds_records.specs.Numbers.{two_bytes, signed_four}
+use Rattle.gds_model.specs.declared.elements.Element.{Element}
+use Rattle.gds_model.specs.declared.elements.Element.TheVariants as element
+use Rattle.gds_model.specs.declared.shape.ShapeKind.TheVariants as shape_kind
+use Rattle.gds_model.specs.Elements.{points_in}
+use Rattle.gds_model.specs.Library.{StreamLibrary, elements_of, library_of}
+use Rattle.gds_model.specs.Names.{name_of}
+use Rattle.gds_writer.specs.MaskFile.{point_bytes, around, boundary, opening}
+use Rattle.gds_writer.specs.MaskLibrary.{point_of, shapes, first_shape, mask_library}
+use Rattle.gds_writer.proofs.Sentence.{after, element_tree, element_trees, mask_tree}
+
+two_bytes-back : (n : ℕ) → n < 65536 → two_bytes (to_be_bytes w16 n) 0 ≡ n
+two_bytes-back n h = omega arith
+
+four_bytes-back : (n : ℕ) → n < 4294967296
+    → 65536 * (256 * (n / 16777216 % 256) + n / 65536 % 256) + (256 * (n / 256 % 256) + n % 256) ≡ n
+four_bytes-back n h = omega arith
+
+signed_four-back : (z : ℤ) → FitsSigned w32 z
+    → cast_signed w32 (65536 * (256 * (cast_unsigned w32 z / 16777216 % 256) + cast_unsigned w32 z / 65536 % 256) + (256 * (cast_unsigned w32 z / 256 % 256) + cast_unsigned w32 z % 256)) ≡ z
+signed_four-back z fits =
+    ap (cast_signed w32) (four_bytes-back (cast_unsigned w32 z) (Fits-of_z {w = w32} {z = z} fits).fits) ∙ to_z-of_z w32 z fits
+
+point-back : (grid : ℤ) (p : Pix) → IsPixWithin 1048128 p → IsBetween (pos 1) (pos 1000) grid
+    → record { x = signed_four (point_bytes grid p) 0; y = signed_four (point_bytes grid p) 4 } ≡ point_of grid p
+point-back grid p near between =
+    let small : unsigned_abs grid ≤ 1000 = omega (arith, ints, between) in
+    let x = signed_four-back (p.x *ℤ grid) (fits_signed_mul w32 p.x grid 1048128 1000 near.0 small (omega arith)) in
+    let y = signed_four-back (p.y *ℤ grid) (fits_signed_mul w32 p.y grid 1048128 1000 near.1 small (omega arith)) in
+    let point : ℤ → ℤ → Point = λ x y. record { x = x; y = y } in
+    ap (λ a. point a (signed_four (point_bytes grid p) 4)) x ∙ ap (λ b. point (p.x *ℤ grid) b) y
+
+five : (a b c d a' b' c' d' : Point) → a ≡ a' → b ≡ b' → c ≡ c' → d ≡ d'
+    → a ∷ b ∷ c ∷ d ∷ a ∷ [] ≡ a' ∷ b' ∷ c' ∷ d' ∷ a' ∷ []
+five a b c d a' b' c' d' ea eb ec ed = cc
+
+points-back : (grid : ℤ) (r : Rect) → IsRectWithin 1048128 r → IsBetween (pos 1) (pos 1000) grid
+    → points_in (flat_map (point_bytes grid) (around r)) ≡ map (point_of grid) (around r)
+points-back grid r (x0, y0, x1, y1) between =
+    five _ _ _ _ _ _ _ _ (point-back grid (record { x = r.x0; y = r.y0 }) (x0, y0) between)
+    (point-back grid (record { x = r.x1; y = r.y0 }) (x1, y0) between) (point-back grid (record { x = r.x1; y = r.y1 }) (x1, y1) between)
+    (point-back grid (record { x = r.x0; y = r.y1 }) (x0, y1) between)
+
+element-made : (out : OutPick) (grid : ℤ) (at : ℕ) (r : Rect) → out.layer < 65536 → out.datatype < 65536 → IsRectWithin 1048128 r
+    → IsBetween (pos 1) (pos 1000) grid
+    → elements_of (element_tree out grid at r)
+    ≡ element.Shape
+    (record { offset = at; kind = shape_kind.Boundary; layer = out.layer; datatype = out.datatype; points = map (point_of grid) (around r) })
+    ∷ []
+element-made out grid at r layer datatype near between =
+    let made : ℕ → ℕ → List Point → List Element = λ l d ps. element.Shape (record { offset = at; kind = shape_kind.Boundary; layer = l; datatype = d; points = ps }) ∷ [] in
+    let points = points_in (flat_map (point_bytes grid) (around r)) in
+    ap (λ n. made n (two_bytes (to_be_bytes w16 out.datatype) 0) points) (two_bytes-back out.layer layer)
+    ∙ ap (λ n. made out.layer n points) (two_bytes-back out.datatype datatype)
+    ∙ ap (λ ps. made out.layer out.datatype ps) (points-back grid r near between)
+
+elements-made : (out : OutPick) (grid : ℤ) (at : ℕ) (rects : List Rect) → (0 < length rects → (out.layer < 65536) × (out.datatype < 65536))
+    → All (IsRectWithin 1048128) rects → IsBetween (pos 1) (pos 1000) grid
+    → flat_map elements_of (element_trees out grid at rects) ≡ shapes out grid at rects
+elements-made out grid at [] fits near between = refl
+elements-made out grid at (r ∷ rects) fits near between =
+    let numbers = fits (omega arith) in
+    let next : after at (boundary out grid r) ≡ at + 64 = omega arith in
+    let rest = elements-made out grid (at + 64) rects (λ _. numbers) (All-tail (IsRectWithin 1048128) r rects near) between in
+    ap (λ l. l ++ flat_map elements_of (element_trees out grid (after at (boundary out grid r)) rects))
+    (element-made out grid at r numbers.0 numbers.1 (All-head (IsRectWithin 1048128) r rects near) between)
+    ∙ ap (λ l. element.Shape (record { offset = at; kind = shape_kind.Boundary; layer = out.layer; datatype = out.datatype; points = map (point_of grid) (around r) }) ∷ l)
+    (ap (λ n. flat_map elements_of (element_trees out grid n rects)) next ∙ rest)
+
+-- a name of plain bytes is the name in its body, whatever zero byte stands behind it
+plain-back : (name : List ℕ) → All (λ b. IsTrue (is_name_byte b)) name → (name_of name ≡ name) × (name_of (name ++ 0 ∷ []) ≡ name)
+plain-back [] plain = (refl, refl)
+plain-back (b ∷ name) plain =
+    let is_plain : is_name_byte b ≡ true = All-head (λ b. IsTrue (is_name_byte b)) b name plain in
+    let zero_is_not : b ≢ 0 = λ e. (let wrong : false ≡ true = subst (λ n. is_name_byte n ≡ true) e is_plain in cc) in
+    let test = ne_eqb b 0 zero_is_not in
+    let rest = plain-back name (All-tail (λ b. IsTrue (is_name_byte b)) b name plain) in
+    (rw test (ap (λ l. b ∷ l) rest.0), rw test (ap (λ l. b ∷ l) rest.1))
+
+padded-back : (name : List ℕ) (even : Bool) → All (λ b. IsTrue (is_name_byte b)) name → name_of (cond even name (name ++ 0 ∷ [])) ≡ name
+padded-back name true plain = (plain-back name plain).0
+padded-back name false plain = (plain-back name plain).1
+
+pub mask-described : (head : Head) (out : OutPick) (grid : ℤ) (rects : List Rect) → length head.header ≡ 2 → length head.dates ≡ 24
+    → length head.units ≡ 16 → (0 < length rects → (out.layer < 65536) × (out.datatype < 65536)) → All (IsRectWithin 1048128) rects → IsBetween (pos 1) (pos 1000) grid
+    → library_of (mask_tree head out grid rects) ≡ mask_library head out grid rects
+mask-described head out grid rects header dates units fits near between =
+    let first : after 0 (opening head out) ≡ first_shape head out = omega (arith, header, dates, units) in
+    let layout : List ℕ → List Element → StreamLibrary = λ name elements. record { head = head; structures = record { name = name; elements = elements } ∷ [] } in
+    ap (λ name. layout name (flat_map elements_of (element_trees out grid (after 0 (opening head out)) rects)))
+    (padded-back out.name (length out.name % 2 == 0) out.name_is_plain)
+    ∙ ap (λ elements. layout out.name elements)
+    (ap (λ n. flat_map elements_of (element_trees out grid n rects)) first
+    ∙ elements-made out grid (first_shape head out) rects fits near between)

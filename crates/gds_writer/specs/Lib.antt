@@ -1,0 +1,3 @@
+pub mod MaskFile
+pub mod MaskLibrary
+pub mod Expansion
