@@ -4,3 +4,8 @@ pub mod PointLemmas
 pub mod WalkLemmas
 pub mod OutlineLemmas
 pub mod PlanLaws
+pub mod NumberLemmas
+pub mod PartLemmas
+pub mod RowLemmas
+pub mod WrongLemmas
+pub mod GraphLemmas

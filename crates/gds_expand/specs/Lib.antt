@@ -2,3 +2,5 @@ pub mod Placement
 pub mod Points
 pub mod Steps
 pub mod Forms
+pub mod Parts
+pub mod Wrong
