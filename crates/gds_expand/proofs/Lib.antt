@@ -9,3 +9,5 @@ pub mod PartLemmas
 pub mod RowLemmas
 pub mod WrongLemmas
 pub mod GraphLemmas
+pub mod CopyLemmas
+pub mod AddLemmas

@@ -4,3 +4,4 @@ pub mod Steps
 pub mod Forms
 pub mod Parts
 pub mod Wrong
+pub mod Copies
