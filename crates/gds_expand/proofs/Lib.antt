@@ -11,3 +11,5 @@ pub mod WrongLemmas
 pub mod GraphLemmas
 pub mod CopyLemmas
 pub mod AddLemmas
+pub mod RankLemmas
+pub mod BaseLemmas

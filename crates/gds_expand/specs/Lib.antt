@@ -5,3 +5,4 @@ pub mod Forms
 pub mod Parts
 pub mod Wrong
 pub mod Copies
+pub mod Bases

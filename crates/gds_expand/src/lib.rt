@@ -10,6 +10,7 @@
 //! `own_fault` says what is wrong with a reference that names a structure. The definitions stand in gds_model.
 #![tactic(auto)]
 
+mod bases;
 mod copies;
 mod parts;
 mod path;
