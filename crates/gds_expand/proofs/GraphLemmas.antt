@@ -24,7 +24,7 @@ pub record IsGraphOf (library : List Structure) (graph : Graph) : Type 0 where
 blank : Structure
 blank = record { name = []; elements = [] }
 
-number_below : (library : List Structure) (name : List ℕ) (t : ℕ) → number_of library name ≡ Some t → t < length library
+pub number_below : (library : List Structure) (name : List ℕ) (t : ℕ) → number_of library name ≡ Some t → t < length library
 number_below library name t e = (position-Some (λ (s : Structure). is_same_name s.name name) library t blank e).0
 
 pub closed_graph : (library : List Structure) (graph : Graph) → IsGraphOf library graph → IsClosed graph

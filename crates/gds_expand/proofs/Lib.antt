@@ -13,3 +13,4 @@ pub mod CopyLemmas
 pub mod AddLemmas
 pub mod RankLemmas
 pub mod BaseLemmas
+pub mod RowMeanings

@@ -6,3 +6,4 @@ pub mod Parts
 pub mod Wrong
 pub mod Copies
 pub mod Bases
+pub mod Rows

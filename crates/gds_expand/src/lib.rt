@@ -18,6 +18,7 @@ mod placement;
 mod points;
 mod reached;
 mod references;
+mod rows;
 mod shapes;
 #[cfg(test)]
 mod tests;
