@@ -1,12 +1,11 @@
 -- Copies that are added to steps.
-use Rattle.std.proofs.Common.{◌≡◌, ℕ, zero, suc, ◌+◌, ◌^◌, ◌⊎◌, inl, inr, List, [], ◌∷◌, ◌++◌, map, Contains, refl, ap, ap₂, sym, ◌∙◌, subst, arith, append_assoc}
+use Rattle.std.proofs.Common.{◌≡◌, ℕ, zero, suc, ◌+◌, ◌^◌, inl, inr, List, [], ◌∷◌, ◌++◌, map, refl, ap, ap₂, sym, ◌∙◌, subst, arith, append_assoc}
 use Rattle.std.specs.List.{flat_map, range_with_len}
 use Rattle.std.proofs.lemmas.List.{append-nil, map_push}
 use Rattle.std.proofs.lemmas.List.Elements.{Contains-push_cases}
 use Rattle.gds_model.specs.declared.position.Position.{Position}
-use Rattle.gds_model.specs.declared.reference.Reference.{Reference}
 use Rattle.gds_model.specs.Placement.{IsWithin}
-use Rattle.gds_model.specs.PlacedList.{Mapped, moved, copy_map}
+use Rattle.gds_model.specs.PlacedList.{moved}
 use Rattle.gds_expand.specs.declared.copies.Base.{Base}
 use Rattle.gds_expand.specs.declared.placement.Placement.{Placement}
 use Rattle.gds_expand.specs.declared.walk.Step.{Step}

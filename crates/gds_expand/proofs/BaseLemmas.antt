@@ -1,6 +1,5 @@
 -- What copies of a structure are made of.
-use Rattle.gds_expand.proofs.RankLemmas.{falls_by_place}
-use Rattle.std.proofs.Common.{◌≡◌, ℕ, zero, suc, ◌+◌, ◌≤◌, ◌^◌, ◌⊎◌, inl, inr, pos, false, Result, Ok, Err, OnOk, List, [], ◌∷◌, ◌++◌, map, Contains, refl, ap, ap₂, sym, ◌∙◌, subst, arith}
+use Rattle.std.proofs.Common.{◌≡◌, ℕ, zero, ◌^◌, inl, inr, Result, Ok, Err, OnOk, List, [], ◌∷◌, ◌++◌, Contains, refl, ap, ap₂, sym, ◌∙◌, subst, arith}
 use Rattle.std.specs.List.{flat_map}
 use Rattle.std.proofs.lemmas.Int.{ints}
 use Rattle.std.proofs.lemmas.List.{append-nil}
@@ -13,8 +12,8 @@ use Rattle.gds_expand.specs.declared.copies.Base.{Base}
 use Rattle.gds_expand.specs.declared.placement.Placement.{Placement}
 use Rattle.gds_expand.specs.declared.walk.Step.{Step}
 use Rattle.gds_expand.specs.declared.walk.Step.TheVariants.{Copy}
-use Rattle.gds_expand.specs.Bases.{AddsReference, IsBaseFor, IsCopyFrom}
-use Rattle.gds_expand.specs.Copies.{AddsCopies, base_places}
+use Rattle.gds_expand.specs.Bases.{AddsReference, IsBaseFor}
+use Rattle.gds_expand.specs.Copies.{AddsCopies}
 use Rattle.gds_expand.specs.Placement.{placed}
 use Rattle.gds_expand.specs.Steps.{step_places}
 use Rattle.gds_expand.proofs.WalkLemmas.{placed-unmoved, unmoved}

@@ -1,6 +1,6 @@
 -- Parts of displacements.
 use Rattle.gds_records.specs.Real.{IsRightAngles, quarter_of}
-use Rattle.std.proofs.Common.{Option, Some, None, IfSome, List, ◌<ℤ◌, ◌≡◌, ℕ, zero, suc, ◌+◌, ◌*◌, ◌/◌, ◌<◌, ◌≤◌, ℤ, pos, negsuc, ◌*ℤ◌, ◌≤ℤ◌, ◌^◌, unsigned_abs, FitsSigned, to_z, of_z, w64, refl, ap, ap₂, sym, ◌∙◌, subst, arith}
+use Rattle.std.proofs.Common.{Option, Some, None, IfSome, List, ◌<ℤ◌, ◌≡◌, ℕ, ◌*◌, ◌/◌, ◌<◌, ◌≤◌, ℤ, pos, negsuc, ◌*ℤ◌, ◌≤ℤ◌, ◌^◌, unsigned_abs, FitsSigned, to_z, of_z, w64, refl, ap, ap₂, sym, ◌∙◌, subst, arith}
 use Rattle.std.specs.Int.RustNames.{int_div}
 use Rattle.std.proofs.Math.Nat.{mul-le-mul, mul-div-le}
 use Rattle.std.proofs.lemmas.Int.{fits_signed_from_abs, ints, quot_fits, quot_is, to_z-of_z, unsigned_abs-mul}

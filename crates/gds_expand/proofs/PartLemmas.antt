@@ -1,6 +1,5 @@
 -- Parts are what elements place, and their targets what these reference.
-use Rattle.std.proofs.Common.{◌≡◌, ℕ, zero, suc, ◌+◌, ◌*◌, ◌<◌, ◌⊎◌, inl, inr, Bool, true, false, Option, Some, None, List, [], ◌∷◌, ◌++◌, length, unsigned_abs, if◌then◌else◌, Contains, refl, ap, ap₂, sym, ◌∙◌, subst, arith}
-use Rattle.std.specs.List.{flat_map}
+use Rattle.std.proofs.Common.{◌≡◌, ℕ, zero, suc, ◌+◌, ◌*◌, ◌<◌, inl, inr, Bool, true, false, Option, Some, None, List, [], ◌∷◌, ◌++◌, length, unsigned_abs, if◌then◌else◌, Contains, refl, ap, ap₂, sym, ◌∙◌, subst, arith}
 use Rattle.std.proofs.lemmas.List.Elements.{Contains-append_left, Contains-append_right, Contains-append_cases}
 use Rattle.gds_model.specs.declared.elements.Element.{Element}
 use Rattle.gds_model.specs.declared.elements.Element.TheVariants.{Shape as shape, Reference as reference}
@@ -12,7 +11,7 @@ use Rattle.gds_model.specs.Reach.{number_of}
 use Rattle.gds_expand.specs.declared.points.Part.{Part}
 use Rattle.gds_expand.specs.declared.points.Part.TheVariants.{Points, Copies}
 use Rattle.gds_expand.specs.Parts.{copies_part, parts_by, parts_in}
-use Rattle.gds_expand.specs.Points.{part_points, parts_points, targets_of}
+use Rattle.gds_expand.specs.Points.{parts_points, targets_of}
 
 -- ---- points
 

@@ -1,22 +1,22 @@
 -- What the row of a structure means, one element after another.
-use Rattle.std.proofs.Common.{◌≡◌, ℕ, zero, suc, ◌<◌, ◌⊎◌, inl, inr, Bool, true, false, Bor, Option, Some, None, is_none, if◌then◌else◌, List, [], ◌∷◌, ◌++◌, Contains, refl, ap, ap₂, sym, ◌∙◌, subst, arith}
+use Rattle.std.proofs.Common.{◌+◌, length, take, get_or, ◌≡◌, ℕ, ◌<◌, inl, inr, Bool, true, false, Bor, Option, Some, None, is_none, if◌then◌else◌, List, [], ◌∷◌, ◌++◌, Contains, refl, ap, sym, ◌∙◌, subst, arith}
 use Rattle.std.specs.List.{flat_map}
-use Rattle.std.proofs.lemmas.List.{append-nil}
-use Rattle.std.proofs.lemmas.List.Elements.{Contains-push_cases}
+use Rattle.std.proofs.lemmas.List.{append-nil, take_more}
+use Rattle.std.proofs.lemmas.List.Elements.{Contains-append_left, Contains-push, Contains-push_cases}
+use Rattle.gds_model.specs.declared.elements.Element.{Element}
 use Rattle.gds_model.specs.declared.elements.Element.TheVariants.{Shape as shape, Reference as reference}
 use Rattle.gds_model.specs.declared.elements.Structure.{Structure}
-use Rattle.gds_model.specs.declared.place_fault.PlaceFault.{PlaceFault}
 use Rattle.gds_model.specs.declared.place_fault.PlaceFault.TheVariants.{Missing}
 use Rattle.gds_model.specs.declared.reference.Reference.{Reference}
 use Rattle.gds_model.specs.declared.shape.Shape.{Shape}
 use Rattle.gds_model.specs.PlacedList.{Mapped, copies_of, copy_maps, placed_by}
 use Rattle.gds_model.specs.PlaceFaults.{own_fault, reference_fault}
 use Rattle.gds_model.specs.Reach.{number_of}
-use Rattle.gds_expand.specs.Bases.{AddsReference, IsCopyFrom}
+use Rattle.gds_expand.specs.Bases.{AddsReference}
 use Rattle.gds_expand.specs.declared.placement.Placement.{Placement}
 use Rattle.gds_expand.specs.declared.walk.Step.{Step}
 use Rattle.gds_expand.specs.declared.walk.Step.TheVariants.{Shape as shape_step, Copy}
-use Rattle.gds_expand.specs.Rows.{AddsElement, Names, IsRight}
+use Rattle.gds_expand.specs.Rows.{AddsElement, IsRow}
 use Rattle.gds_expand.specs.Steps.{Plan, steps_of, step_places}
 use Rattle.gds_expand.proofs.AddLemmas.{flat_map-push}
 
@@ -60,3 +60,36 @@ element_by_shape library chosen plan s steps on = record {
     | inr last ↦ absurd (let no : ⊥ = cc in no)
   ];
 }
+
+-- ---- rows
+
+pub row_none : (library : List Structure) (chosen : Shape → Bool) (plan : Plan) → IsRow library chosen plan [] []
+row_none library chosen plan = record { places = λ inner means. refl; copies = λ t m there. absurd (none t m there) }
+  where
+    none : (t : ℕ) (m : Placement) → Contains [] (Copy t m) → ⊥
+    none t m (k, below, e) = omega arith
+
+row_push : (library : List Structure) (chosen : Shape → Bool) (plan : Plan) (elements : List Element) (e : Element) (old new : List Step) →
+    IsRow library chosen plan elements old → AddsElement library chosen plan e old new → IsRow library chosen plan (elements ++ e ∷ []) new
+row_push library chosen plan elements e old new h k = record {
+  places = λ inner means.
+    k.places inner (λ t named. means e t (Contains-push elements e) named)
+    ∙ ap (λ (xs : List Mapped). xs ++ placed_by library chosen inner e)
+    (h.places inner (λ x t there named. means x t (Contains-append_left elements (e ∷ []) x there) named))
+    ∙ sym (flat_map-push (placed_by library chosen inner) elements e);
+  copies = λ t m there. elim (k.copies t m there) [
+    | inl early ↦
+        let from = h.copies t m early in
+        (from.0, from.1, Contains-append_left elements (e ∷ []) from.0 from.2, from.3, from.4)
+    | inr last ↦ (e, last.0, Contains-push elements e, last.1, last.2)
+  ];
+}
+
+-- one more element
+pub row_more : (library : List Structure) (chosen : Shape → Bool) (plan : Plan) (elements : List Element) (i : ℕ) (e : Element) (old new : List Step) →
+    i < length elements → e ≡ get_or elements i e → IsRow library chosen plan (take i elements) old → AddsElement library chosen plan e old new →
+    IsRow library chosen plan (take (i + 1) elements) new
+row_more library chosen plan elements i e old new there is h k =
+    subst (λ (es : List Element). IsRow library chosen plan es new)
+    (ap (λ (x : Element). take i elements ++ x ∷ []) is ∙ sym (take_more elements i e there))
+    (row_push library chosen plan (take i elements) e old new h k)

@@ -30,3 +30,11 @@ pub record AddsElement (library : List Structure) (chosen : Shape → Bool) (pla
       flat_map (step_places inner) new ≡ flat_map (step_places inner) old ++ placed_by library chosen inner e
   pub copies : (t : ℕ) (m : Placement) → Contains new (Copy t m) →
       Contains old (Copy t m) ⊎ ((u : ℕ) × Names library e u × IsCopyFrom (steps_of plan u) u t m)
+
+-- the row has what the elements place, and copies what they reference
+pub record IsRow (library : List Structure) (chosen : Shape → Bool) (plan : Plan) (elements : List Element) (row : List Step) : Type 0 where
+  pub places : (inner : ℕ → List Mapped) →
+      ((e : Element) (t : ℕ) → Contains elements e → Names library e t → flat_map (step_places inner) (steps_of plan t) ≡ inner t) →
+      flat_map (step_places inner) row ≡ flat_map (placed_by library chosen inner) elements
+  pub copies : (t : ℕ) (m : Placement) → Contains row (Copy t m) →
+      (e : Element) × (u : ℕ) × Contains elements e × Names library e u × IsCopyFrom (steps_of plan u) u t m

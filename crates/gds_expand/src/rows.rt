@@ -1,6 +1,6 @@
 //! The steps of a structure, from those of the structures that it references.
 
-ghost use Rattle.std.specs.Prelude.{◌≡◌, ℕ, ◌^◌, Bool, List, Contains, OnOk, length};
+ghost use Rattle.std.specs.Prelude.{◌≡◌, ℕ, ◌^◌, Bool, List, Contains, All, IfOk, OnOk, length};
 ghost use Rattle.gds_model.specs.declared.elements.Structure.{Structure};
 ghost use Rattle.gds_model.specs.declared.shape.Shape.{Shape as ShapeRead};
 ghost use Rattle.gds_model.specs.declared.elements.Element.TheVariants as element_kind;
@@ -8,16 +8,16 @@ ghost use Rattle.gds_model.specs.PlacedList.{is_on};
 ghost use Rattle.gds_model.specs.Placement.{IsWithin};
 ghost use Rattle.gds_expand.specs.declared.placement.Placement.{Placement as PlacementRead};
 ghost use Rattle.gds_expand.specs.declared.walk.Step.TheVariants.{Copy};
-ghost use Rattle.gds_expand.specs.Rows.{AddsElement, IsRight};
+ghost use Rattle.gds_expand.specs.Rows.{AddsElement, IsRight, IsRow};
 ghost use Rattle.gds_expand.specs.Steps.{Plan, steps_of};
 
 use crate::bases::push_reference;
 use crate::parts::{is_chosen, number_of};
 use crate::walk::Step;
 use gds_library::Library;
-use gds_model::{Reference, Shape};
+use gds_model::{Element, Reference, Shape};
 use opc_base::Pick;
-use std::alloc::AllocError;
+use std::alloc::{AllocError, Global};
 
 /// Adds a shape, where it is on the chosen layer.
 fn push_shape<'a>(
@@ -49,4 +49,43 @@ fn push_named(
         None => Ok(()),
         Some(target) => push_reference(reference, target, &plan[target], steps),
     }
+}
+
+/// Adds what an element places.
+fn push_element<'a>(
+    library: &Library,
+    pick: &Pick,
+    plan: &[Vec<Step<'_>>],
+    element: &'a Element,
+    steps: &mut Vec<Step<'a>>,
+) -> Result<(), AllocError>
+    requires right { IsRight library.now.structures element.now }
+    requires sized { length plan.now ≡ length library.now.structures }
+    requires near { (s t : ℕ) (m : PlacementRead) → Contains (steps_of plan.now s) (Copy t m) → IsWithin (2 ^ 61) m.shift }
+    ensures { OnOk result (AddsElement library.now.structures (is_on pick.now.layer pick.now.datatype) plan.now element.now steps.old.items steps.new.items) }
+{
+    match element {
+        Element::Shape(shape) => push_shape(pick, shape, steps),
+        Element::Reference(reference) => push_named(library, plan, reference, steps),
+    }
+}
+
+/// The row of a structure with these elements, from the rows of the structures that they reference.
+pub(crate) fn row_of<'a>(
+    alloc: Global,
+    library: &Library,
+    pick: &Pick,
+    plan: &[Vec<Step<'_>>],
+    elements: &'a [Element],
+) -> Result<Vec<Step<'a>>, AllocError>
+    requires right { All (IsRight library.now.structures) elements.now }
+    requires sized { length plan.now ≡ length library.now.structures }
+    requires near { (s t : ℕ) (m : PlacementRead) → Contains (steps_of plan.now s) (Copy t m) → IsWithin (2 ^ 61) m.shift }
+    ensures { IfOk result (λ row. IsRow library.now.structures (is_on pick.now.layer pick.now.datatype) plan.now elements.now row.items) }
+{
+    let mut row = Vec::new(alloc);
+    for element in elements {
+        push_element(library, pick, plan, element, &mut row)?;
+    }
+    Ok(row)
 }

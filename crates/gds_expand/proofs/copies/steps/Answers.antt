@@ -1,4 +1,4 @@
-use Rattle.std.proofs.Common.{rules, arith, ◌<◌, ◌^◌}
+use Rattle.std.proofs.Common.{rules}
 use Rattle.gds_model.specs.PlacedList.{steps}
 use Rattle.gds_expand.proofs.CopyLemmas.{read_fits, read_part, read_within}
 use Rattle.gds_expand.proofs.PlacementLemmas.{same_position}

@@ -1,4 +1,4 @@
-use Rattle.std.proofs.Common.{sym, ◌≡◌, Bool, true, false}
+use Rattle.std.proofs.Common.{sym}
 use Rattle.gds_expand.proofs.NumberLemmas.{number_at, no_number}
 use Rattle.gds_expand.proofs.parts.number_of.Goals as goal
 

@@ -1,4 +1,4 @@
-use Rattle.std.proofs.Common.{◌≡◌, ◌<◌, length, arith}
+use Rattle.std.proofs.Common.{◌<◌, length, arith}
 use Rattle.gds_expand.proofs.GraphLemmas.{marked_too}
 use Rattle.gds_expand.proofs.reached.reached_from.Goals as goal
 

@@ -1,6 +1,5 @@
-use Rattle.std.proofs.Common.{◌≡◌, ◌+◌, refl, ap, sym, ◌∙◌, subst}
-use Rattle.std.specs.Prelude.{fold, slice_index_or}
-use Rattle.gds_expand.specs.declared.wrong.Wrong.{Wrong}
+use Rattle.std.proofs.Common.{◌+◌, ap, sym, ◌∙◌, subst}
+use Rattle.std.specs.Prelude.{fold}
 use Rattle.gds_expand.specs.Wrong.{IsLowest, IsMarkedBelow, lower_by}
 use Rattle.gds_expand.proofs.WrongLemmas.{lowest_none, lowest_marked, lowest_unmarked}
 use Rattle.gds_expand.proofs.wrong.lowest_wrong.Goals.{then-marks-i, else-marks-i}
