@@ -14,3 +14,4 @@ pub mod AddLemmas
 pub mod RankLemmas
 pub mod BaseLemmas
 pub mod RowMeanings
+pub mod RowRanks

@@ -73,10 +73,10 @@ row_push : (library : List Structure) (chosen : Shape → Bool) (plan : Plan) (e
     IsRow library chosen plan elements old → AddsElement library chosen plan e old new → IsRow library chosen plan (elements ++ e ∷ []) new
 row_push library chosen plan elements e old new h k = record {
   places = λ inner means.
-    k.places inner (λ t named. means e t (Contains-push elements e) named)
-    ∙ ap (λ (xs : List Mapped). xs ++ placed_by library chosen inner e)
-    (h.places inner (λ x t there named. means x t (Contains-append_left elements (e ∷ []) x there) named))
-    ∙ sym (flat_map-push (placed_by library chosen inner) elements e);
+      k.places inner (λ t named. means e t (Contains-push elements e) named)
+      ∙ ap (λ (xs : List Mapped). xs ++ placed_by library chosen inner e)
+      (h.places inner (λ x t there named. means x t (Contains-append_left elements (e ∷ []) x there) named))
+      ∙ sym (flat_map-push (placed_by library chosen inner) elements e);
   copies = λ t m there. elim (k.copies t m there) [
     | inl early ↦
         let from = h.copies t m early in

@@ -1,5 +1,5 @@
 -- The lowest wrong reference, one element after another.
-use Rattle.std.proofs.Common.{◌≡◌, ℕ, zero, suc, ◌+◌, ◌<◌, ◌≤◌, ◌⊎◌, inl, inr, Bool, false, if◌then◌else◌, Option, Some, None, IsSome, List, [], ◌∷◌, length, Contains, refl, ap, sym, ◌∙◌, subst, arith}
+use Rattle.std.proofs.Common.{◌↔◌, ◌≡◌, ℕ, zero, suc, ◌+◌, ◌<◌, ◌≤◌, ◌⊎◌, inl, inr, Bool, false, if◌then◌else◌, Option, Some, None, IsSome, List, [], ◌∷◌, length, Contains, refl, ap, sym, ◌∙◌, subst, arith}
 use Rattle.std.specs.Prelude.{fold, nat_lt, slice_get}
 use Rattle.std.proofs.lemmas.Bool.{cases_lt, lt-ltb, cases_eq}
 use Rattle.gds_model.specs.declared.elements.Element.{Element}
@@ -7,8 +7,8 @@ use Rattle.gds_model.specs.declared.elements.Element.TheVariants.{Shape as shape
 use Rattle.gds_model.specs.declared.elements.Structure.{Structure}
 use Rattle.gds_model.specs.declared.place_fault.PlaceFault.{PlaceFault}
 use Rattle.gds_model.specs.declared.reference.Reference.{Reference}
-use Rattle.gds_model.specs.PlaceFaults.{reference_fault}
-use Rattle.gds_model.specs.Reach.{elements_at}
+use Rattle.gds_model.specs.PlaceFaults.{AreReferencesRight, IsReached, IsReferenceFault, reference_fault}
+use Rattle.gds_model.specs.Reach.{elements_at, Reaches}
 use Rattle.gds_expand.specs.declared.wrong.Wrong.{Wrong}
 use Rattle.gds_expand.specs.Wrong.{lower, lower_by, IsLowest, IsMarkedBelow}
 use Rattle.structure_graph.specs.Graph.{IsMarked}
@@ -146,3 +146,26 @@ lowest_unmarked library marks i best unmarked h = lowest_of_same library (IsMark
       | inl same ↦ absurd (unmarked (subst (IsMarked marks) same is))
       | inr other ↦ let lower : s < i = omega (arith, other) in (s, lower, is, there)
     ]
+
+-- ---- what is reached
+
+structure_there : (library : List Structure) (s : ℕ) (e : Element) → Contains (elements_at library s) e → s < length library
+structure_there [] s e (k, below, is) = absurd (omega arith)
+structure_there (x ∷ library) zero e there = omega arith
+structure_there (x ∷ library) (suc s) e there = let below : s < length library = structure_there library s e there in omega arith
+
+marked_reference : (library : List Structure) (top : ℕ) (marks : List Bool) → ((s : ℕ) → IsMarked marks s ↔ Reaches library top s) →
+    (r : Reference) → IsReached library top r → IsMarkedBelow library marks (length library) r
+marked_reference library top marks right r (s, reached, there) = (s, structure_there library s (reference r) there, (right s).1 reached, there)
+
+-- the lowest wrong reference of the marked structures, where the reached ones are marked
+pub wrong_is_fault : (library : List Structure) (top : ℕ) (marks : List Bool) (wrong : Wrong) → ((s : ℕ) → IsMarked marks s ↔ Reaches library top s) →
+    IsLowest library (IsMarkedBelow library marks (length library)) (Some wrong) → IsReferenceFault library top wrong.fault
+wrong_is_fault library top marks wrong right (r, (s, below, marked, there), at, is, least) = (r, (s, (right s).0 marked, there), is, lowest)
+  where
+    lowest : (q : Reference) → IsReached library top q → IsSome (reference_fault library q) → r.offset ≤ q.offset
+    lowest q reached some = let bound : wrong.offset ≤ q.offset = least q (marked_reference library top marks right q reached) some in omega (arith, at, bound)
+
+pub none_is_wrong : (library : List Structure) (top : ℕ) (marks : List Bool) → ((s : ℕ) → IsMarked marks s ↔ Reaches library top s) →
+    IsLowest library (IsMarkedBelow library marks (length library)) None → AreReferencesRight library top
+none_is_wrong library top marks right h r reached = h r (marked_reference library top marks right r reached)
