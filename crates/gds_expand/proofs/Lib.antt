@@ -15,3 +15,4 @@ pub mod RankLemmas
 pub mod BaseLemmas
 pub mod RowMeanings
 pub mod RowRanks
+pub mod SetLemmas

@@ -12,7 +12,6 @@ use Rattle.gds_model.proofs.PlacedListLaws.{FallsBy, placed_in-same}
 use Rattle.gds_expand.specs.Bases.{IsCopyFrom}
 use Rattle.gds_expand.specs.declared.placement.Placement.{Placement}
 use Rattle.gds_expand.specs.declared.walk.Step.{Step}
-use Rattle.gds_expand.specs.declared.walk.Step.TheVariants.{Copy}
 use Rattle.gds_expand.specs.Rows.{IsRow, Names}
 use Rattle.gds_expand.specs.Steps.{Plan, IsRanked, steps_of, step_places}
 use Rattle.gds_expand.proofs.PlanLaws.{Means}
