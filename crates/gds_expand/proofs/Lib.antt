@@ -4,3 +4,15 @@ pub mod PointLemmas
 pub mod WalkLemmas
 pub mod OutlineLemmas
 pub mod PlanLaws
+pub mod NumberLemmas
+pub mod PartLemmas
+pub mod RowLemmas
+pub mod WrongLemmas
+pub mod GraphLemmas
+pub mod CopyLemmas
+pub mod AddLemmas
+pub mod RankLemmas
+pub mod BaseLemmas
+pub mod RowMeanings
+pub mod RowRanks
+pub mod SetLemmas

@@ -318,7 +318,7 @@ fewer_at_copy plan rank depth s next t m inner both ts ranked low on =
 abbrev pub unmoved : Placement → Type 0
 unmoved m = (m.flip ≡ false) × (m.turns ≡ 0) × (m.shift.x ≡ pos 0) × (m.shift.y ≡ pos 0)
 
-placed-unmoved : (m : Placement) (p : Position) → unmoved m → placed m p ≡ p
+pub placed-unmoved : (m : Placement) (p : Position) → unmoved m → placed m p ≡ p
 placed-unmoved m p h = rw (h.0, h.1, h.2, h.3) (same_position _ _ (omega (arith, ints)) (omega (arith, ints)))
 
 pub starts_walk : (plan : Plan) (rank : ℕ → ℕ) (top : ℕ) (m : Placement) → IsRanked plan rank → top < length plan → unmoved m →

@@ -10,14 +10,20 @@
 //! `own_fault` says what is wrong with a reference that names a structure. The definitions stand in gds_model.
 #![tactic(auto)]
 
+mod bases;
+mod copies;
+mod parts;
 mod path;
 mod placement;
 mod points;
+mod reached;
 mod references;
+mod rows;
 mod shapes;
 #[cfg(test)]
 mod tests;
 mod walk;
+mod wrong;
 
 pub use gds_model::PlaceFault;
 pub use opc_base::{Outline, Placed};

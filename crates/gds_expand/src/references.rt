@@ -1,6 +1,6 @@
 //! What is wrong with references, and where they place their copies.
 
-ghost use Rattle.std.specs.Prelude.{◌≡◌, ◌^◌, ◌≤ℤ◌, pos, Some};
+ghost use Rattle.std.specs.Prelude.{◌≡◌, ◌^◌, ◌<◌, ◌≤ℤ◌, pos, Some, IfSome};
 ghost use Rattle.std.specs.Int.RustNames.{int_rem};
 ghost use Rattle.std.specs.Ordering.{int_eq};
 ghost use Rattle.gds_model.specs.Outlines.{position_of};
@@ -22,8 +22,9 @@ fn is_unit(mag: Option<[u8; 8]>) -> bool
 }
 
 /// The quarter turns of a reference with this angle: none where it has no angle.
-fn turns_of(angle: Option<[u8; 8]>) -> Option<u8>
-    ensures { result ≡ turns_of angle }
+pub(crate) fn turns_of(angle: Option<[u8; 8]>) -> Option<u8>
+    ensures value { result ≡ turns_of angle }
+    ensures few { IfSome result (λ turns. turns < 4) }
 {
     match angle {
         None => Some(0),
@@ -31,7 +32,7 @@ fn turns_of(angle: Option<[u8; 8]>) -> Option<u8>
     }
 }
 
-fn point_of(reference: &Reference, i: usize) -> Point
+pub(crate) fn point_of(reference: &Reference, i: usize) -> Point
     ensures { result ≡ point_of reference.now i }
 {
     match reference.points.as_slice().get(i) {
@@ -41,7 +42,7 @@ fn point_of(reference: &Reference, i: usize) -> Point
 }
 
 /// From the first point of an array to another.
-fn displacement(reference: &Reference, i: usize) -> Position
+pub(crate) fn displacement(reference: &Reference, i: usize) -> Position
     ensures value { result ≡ displacement reference.now i }
     ensures near { IsWithin (2 ^ 32) result }
 {
@@ -55,9 +56,9 @@ fn displacement(reference: &Reference, i: usize) -> Position
 
 /// How many steps an array has in one of its directions.
 #[derive(Clone, Copy, Debug)]
-struct Count {
-    steps: i64,
-    ghost positive: { pos 1 ≤ℤ steps },
+pub(crate) struct Count {
+    pub steps: i64,
+    pub ghost positive: { pos 1 ≤ℤ steps },
 }
 
 fn is_multiple(n: i64, count: &Count) -> bool
