@@ -8,7 +8,6 @@
 //!   of a parse tree; a leaf holds the offset and the body of its record;
 //! - `Names`: the name in a body;
 //! - `Faults`: what may be wrong at a record, and the first fault of a file in file order;
-//! - `Elements`, `Library`: the library that a sentence describes.
 //! - `Elements`, `Library`: the library that a sentence describes;
 //! - `Reach`: which structures the references of a library reach;
 //! - `Placement`, `PlacedList`: where references place points, and the list of the shapes that a structure places;

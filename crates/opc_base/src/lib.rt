@@ -6,9 +6,15 @@
 //!
 //! The outside is a trait, `Host`: files by name, a place to say things, and faults that are counted.
 //!
-//! The definitions stand in `specs/`: `Plane` (sets of pixels), `Runs` and `Canonical` (canonical rectangles), `Cover`
-//! and `Target` (what placed shapes cover), `Corners` (signed corners), `Optics` (the plain pixel sum), `Rules` (ranges
-//! of rules), `Outside` (what a host holds, tells and counts).
+//! The definitions stand in `specs/`, in this order:
+//!
+//! - `Sums`: sums of integers;
+//! - `Plane`, `Corners`, `Runs`, `Canonical`: sets of pixels, their signed corners, their canonical rectangles;
+//! - `Cover`, `Target`: what placed shapes cover;
+//! - `Optics`, `Blocks`, `Lanes`: the plain pixel sum, sums over blocks of a window, and the lanes of a set of kernels;
+//! - `Changes`: numbers of a slice that rise, each by what its place gives;
+//! - `Ranges`, `Rules`: ranges of numbers and names, and rules that are equal but for a part;
+//! - `Outside`, `Memory`, `Calm`: what a host holds, tells and counts, and the hosts in memory.
 #![tactic(auto)]
 
 mod broken;
