@@ -1,6 +1,6 @@
 //! The number of points that each structure places, by products.
 
-ghost use Rattle.std.specs.Prelude.{◌≡◌, ℕ, ◌<◌, ◌≤◌, length, slice_index, All, Contains, IfOk};
+ghost use Rattle.std.specs.Prelude.{◌≡◌, ℕ, ◌<◌, ◌≤◌, length, slice_index, All, Contains, IfOk, vec_len};
 ghost use Rattle.gds_expand.specs.Points.{IsOrderOf, parts_points, points_in, targets_of};
 ghost use Rattle.gds_model.specs.PlaceFaults.{saturated};
 
@@ -37,7 +37,8 @@ pub fn point_counts(
 ) -> Result<Vec<u64>, AllocError>
     requires order { IsOrderOf plan.now order.now }
     requires in_range { All (λ s. s < length plan.now) order.now }
-    ensures { IfOk result (λ counts. (s depth : ℕ) → Contains order.now s → length order.now ≤ depth → slice_index counts.items s ≡ saturated (points_in plan.now depth s)) }
+    ensures sized { IfOk result (λ counts. vec_len counts ≡ length plan.now) }
+    ensures counted { IfOk result (λ counts. (s depth : ℕ) → Contains order.now s → length order.now ≤ depth → slice_index counts.items s ≡ saturated (points_in plan.now depth s)) }
 {
     let mut counts = vec![in alloc; 0u64; plan.len()]?;
     for structure in order {

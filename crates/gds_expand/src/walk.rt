@@ -36,13 +36,9 @@ pub fn placed_shapes<'a>(
     plan: &[Vec<Step<'a>>],
     top: usize,
 ) -> Result<Vec<PlacedShape<'a>>, AllocError>
-    ghost rank: { ℕ → ℕ }
-    requires ranked { IsRanked plan.now rank }
+    requires ranked { (rank : ℕ → ℕ) × IsRanked plan.now rank × (rank top < 2 ^ 16) }
     requires top { top < length plan.now }
-    requires depth { rank top < 2 ^ 16 }
-
-    // at every depth that reaches the last chain
-    ensures placed { IfOk result (λ shapes. (depth : ℕ) → rank top < depth → map mapped shapes.items ≡ plan_places plan.now depth top) }
+    ensures placed { IfOk result (λ shapes. map mapped shapes.items ≡ plan_places plan.now (2 ^ 16) top) }
     ensures near { IfOk result (λ shapes. All (λ x. IsWithin (2 ^ 50) x.placement.shift) shapes.items) }
 {
     let mut shapes = Vec::new(alloc);
