@@ -8,7 +8,7 @@ use Rattle.std.proofs.lemmas.List.Elements.{All-contains, Contains-append_left, 
 use Rattle.gds_model.specs.declared.elements.Structure.{Structure}
 use Rattle.gds_model.specs.declared.shape.Shape.{Shape}
 use Rattle.gds_model.specs.Placement.{IsWithin}
-use Rattle.gds_model.specs.PlacedList.{Mapped, placed_by, placed_list}
+use Rattle.gds_model.specs.PlacedList.{placed_by, placed_list}
 use Rattle.gds_model.specs.Reach.{elements_at, References}
 use Rattle.gds_expand.specs.Bases.{IsCopyFrom}
 use Rattle.gds_expand.specs.declared.placement.Placement.{Placement}

@@ -82,11 +82,7 @@ fn judge_references(
 }
 
 /// The structures that the top reaches, from the bottom up, or the lowest of them that reaches itself.
-fn order_from(
-    alloc: Global,
-    graph: &[Vec<usize>],
-    top: usize,
-) -> Result<Vec<usize>, PlaceFault>
+fn order_from(alloc: Global, graph: &[Vec<usize>], top: usize) -> Result<Vec<usize>, PlaceFault>
     requires closed { IsClosed graph.now }
     requires top { top < length graph.now }
     requires few { length graph.now ≤ 65535 }

@@ -1,4 +1,4 @@
-use Rattle.std.proofs.Common.{ℕ, ◌≡◌, [], ◌∷◌, ◌++◌, vec_len, ◌+◌, subst, sym, ap, arith}
+use Rattle.std.proofs.Common.{◌≡◌, [], subst, sym, arith}
 use Rattle.gds_expand.specs.Steps.{Plan, steps_of}
 use Rattle.gds_expand.proofs.StepLemmas.{empty_more}
 use Rattle.gds_expand.proofs.plans.empty_plan.Goals as goal

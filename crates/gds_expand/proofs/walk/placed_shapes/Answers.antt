@@ -1,4 +1,4 @@
-use Rattle.std.proofs.Common.{◌≡◌, suc, ◌-◌, ◌*◌, ◌^◌, ◌<◌, ◌≤◌, List, [], length, refl, sym, ◌∙◌, subst, arith, rules}
+use Rattle.std.proofs.Common.{◌≡◌, ◌-◌, ◌*◌, ◌^◌, ◌<◌, ◌≤◌, List, [], length, refl, sym, ◌∙◌, subst, arith, rules}
 use Rattle.std.proofs.lemmas.List.{nil_from_length}
 use Rattle.gds_expand.specs.declared.walk.Step.TheVariants.{Shape, Copy}
 use Rattle.gds_expand.specs.declared.walk.Task.{Task}
