@@ -1,2 +1,3 @@
 pub mod Elements
+mod ImageLaws
 pub mod ProbeLaws

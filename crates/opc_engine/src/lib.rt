@@ -12,6 +12,7 @@
 
 mod ask;
 mod fault;
+mod image;
 mod layout;
 mod limits;
 mod one_pixel;
