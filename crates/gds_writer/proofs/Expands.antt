@@ -41,7 +41,7 @@ above q x u positive below =
     let is : x ≡ q +ℤ pos (suc m) = omega (arith, ints) in
     rw is (more_units q u m positive)
 
-exact : (x u : ℤ) → pos 1 ≤ℤ u → int_div (x *ℤ u) u ≡ x
+pub exact : (x u : ℤ) → pos 1 ≤ℤ u → int_div (x *ℤ u) u ≡ x
 exact x u positive =
     let q = int_div (x *ℤ u) u in
     let here : q *ℤ u +ℤ int_rem (x *ℤ u) u ≡ x *ℤ u = quot-rem (x *ℤ u) u in
@@ -60,7 +60,7 @@ pixels-back : (grid : ℤ) (points : List Pix) → pos 1 ≤ℤ grid
 pixels-back grid [] positive = refl
 pixels-back grid (p ∷ points) positive = ap₂ (λ p points. p ∷ points) (pixel-back grid p positive) (pixels-back grid points positive)
 
-chosen : (out : OutPick) → (out.layer == out.layer && out.datatype == out.datatype) ≡ true
+pub chosen : (out : OutPick) → (out.layer == out.layer && out.datatype == out.datatype) ≡ true
 chosen out = rw (eq-eqb out.layer out.layer refl, eq-eqb out.datatype out.datatype refl) refl
 
 shapes-covered : (library : List Structure) (inner : ℕ → List Mapped) (out : OutPick) (grid : ℤ) (at : ℕ) (rects : List Rect) (x y : ℤ)

@@ -4,3 +4,6 @@ pub mod Sentence
 pub mod Described
 pub mod Covered
 pub mod Expands
+pub mod KindCodes
+pub mod NoFault
+pub mod PlacedRight

@@ -25,7 +25,7 @@ abbrev pub after : ℕ → List MaskRecord → ℕ
 after at [] = at
 after at (r ∷ rs) = after (behind at r.body) rs
 
-standing-append : (at : ℕ) (xs ys : List MaskRecord) → standing at (xs ++ ys) ≡ standing at xs ++ standing (after at xs) ys
+pub standing-append : (at : ℕ) (xs ys : List MaskRecord) → standing at (xs ++ ys) ≡ standing at xs ++ standing (after at xs) ys
 standing-append at [] ys = refl
 standing-append at (x ∷ xs) ys =
     ap (λ l. record { offset = at; code = code_of x.kind; body = x.body } ∷ l) (standing-append (behind at x.body) xs ys)

@@ -1,3 +1,4 @@
 pub mod MaskFile
 pub mod MaskLibrary
 pub mod Expansion
+pub mod Faultless

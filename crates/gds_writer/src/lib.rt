@@ -17,8 +17,8 @@
 //!
 //! The clauses of `write_mask` say each byte (`file`, by `specs/MaskFile.antt`), that the file has exactly these records
 //! (`records`), and that they are a sentence of the grammar, whose library has one structure with a BOUNDARY for each
-//! rectangle (`library`, by `specs/MaskLibrary.antt`), and that this structure covers exactly the region's pixels
-//! (`expands`, by `specs/Expansion.antt`).
+//! rectangle (`library`, by `specs/MaskLibrary.antt`), that this structure covers exactly the region's pixels
+//! (`expands`, by `specs/Expansion.antt`), and that nothing is wrong with it (`faultless`, by `specs/Faultless.antt`).
 #![tactic(auto)]
 
 mod boundary;

@@ -1,12 +1,13 @@
 //! The whole file.
-ghost use Rattle.std.specs.Prelude.{◌≡◌, ◌≤◌, ◌%◌, pos, length, All, IfOk};
+ghost use Rattle.std.specs.Prelude.{◌≡◌, ◌≤◌, ◌+◌, ◌-◌, ◌*◌, ◌^◌, ◌%◌, min, pos, length, All, IfOk};
 ghost use Rattle.opc_base.specs.Plane.{IsRectWithin, cover};
 ghost use Rattle.opc_base.specs.Ranges.{IsBetween};
 ghost use Rattle.gds_records.specs.Records.{records_from};
 ghost use Rattle.gds_model.specs.Library.{IsLibraryOf};
 ghost use Rattle.gds_writer.specs.Expansion.{ExpandsTo};
+ghost use Rattle.gds_writer.specs.Faultless.{IsFaultless};
 ghost use Rattle.gds_writer.specs.MaskLibrary.{mask_library};
-ghost use Rattle.gds_writer.specs.MaskFile.{mask_file, mask_records, standing};
+ghost use Rattle.gds_writer.specs.MaskFile.{mask_file, mask_records, padded, standing};
 
 use crate::boundary::put_boundary;
 use crate::opening::put_opening;
@@ -15,7 +16,7 @@ use opc_base::{Bytes, NoMemory, OutPick, Region};
 use std::alloc::Global;
 
 /// The mask file of a region: the head of the layout, and one structure with a BOUNDARY for each canonical rectangle.
-/// `grid` is the number of database units in a pixel.
+/// `grid` is the number of database units in a pixel. The memory of the file is taken once, before its first byte.
 pub fn write_mask(
     alloc: Global,
     head: &Head,
@@ -34,8 +35,10 @@ pub fn write_mask(
     ensures records { IfOk result (λ bytes. records_from bytes 0 ≡ standing 0 (mask_records head.now out.now grid region.now)) }
     ensures library { IfOk result (λ bytes. IsLibraryOf bytes (mask_library head.now out.now grid region.now)) }
     ensures expands { IfOk result (λ bytes. ExpandsTo bytes out.now.name out.now.layer out.now.datatype grid (cover region.now)) }
+    ensures faultless { IfOk result (λ bytes. IsFaultless bytes out.now.name out.now.layer out.now.datatype grid) }
 {
-    let mut file = Bytes::from_vec(Vec::new(alloc));
+    let size = file_size(head, region, out);
+    let mut file = Bytes::from_vec(Vec::with_capacity(alloc, size)?);
     put_opening(alloc, &mut file, head, out)?;
     for rect in region.rects() {
         put_boundary(alloc, &mut file, out, rect, grid)?;
@@ -43,4 +46,15 @@ pub fn write_mask(
     put_record(alloc, &mut file, 0x07, 0x00, &[])?;
     put_record(alloc, &mut file, 0x04, 0x00, &[])?;
     Ok(file)
+}
+
+/// How many bytes the file has: 64 for each rectangle, and what stands before and behind them.
+fn file_size(head: &Head, region: &Region, out: &OutPick) -> usize
+    requires name { length head.now.name ≤ 65530 }
+    ensures { result ≡ min (98 + length head.now.name + length (padded out.now.name) + 64 * length region.now) (2 ^ 64 - 1) }
+{
+    let name = out.name.as_slice().len();
+    let frame = 98 + head.name.as_slice().len() + name + name % 2;
+    let elements = region.rects().len().saturating_mul(64);
+    elements.saturating_add(frame)
 }

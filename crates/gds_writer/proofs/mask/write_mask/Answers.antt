@@ -1,4 +1,4 @@
-use Rattle.std.proofs.Common.{sym, arith, length, ◌<◌, ◌≤◌, ◌≡◌, ◌∙◌, ◌++◌, ap, refl, [], take, get_or, pos, List, FitsSigned, w32, to_z, of_z}
+use Rattle.std.proofs.Common.{sym, subst, arith, length, ◌<◌, ◌≤◌, ◌≡◌, ◌∙◌, ◌++◌, ap, refl, [], take, get_or, pos, List, FitsSigned, w32, to_z, of_z}
 use Rattle.std.specs.List.{flat_map}
 use Rattle.std.proofs.lemmas.Int.{to_z-of_z}
 use Rattle.std.proofs.lemmas.List.{take_all}
@@ -10,9 +10,12 @@ use Rattle.gds_records.specs.Records.{records_from}
 use Rattle.gds_writer.proofs.ReadBack.{mask_read_back}
 use Rattle.gds_writer.proofs.Sentence.{mask_tree, mask-spelled}
 use Rattle.gds_writer.proofs.Described.{mask-described}
+use Rattle.gds_model.specs.Faults.{HasNoFault}
 use Rattle.gds_model.specs.Library.{IsLibraryOf}
 use Rattle.gds_writer.specs.MaskLibrary.{mask_library}
 use Rattle.gds_writer.proofs.Expands.{mask-expands}
+use Rattle.gds_writer.proofs.NoFault.{mask-no_fault}
+use Rattle.gds_writer.proofs.PlacedRight.{mask-top, mask-references, mask-no_cycle, mask-shapes}
 use Rattle.gds_writer.proofs.mask.write_mask.Goals as goal
 
 pub loop-rect-preserved : goal.loop-rect-preserved
@@ -61,5 +64,14 @@ returns c =
         reading = described;
         top = refl;
         covered = λ x y. mask-expands c.args.head.now out c.args.grid rects x y args.grid.0 c.rects-rect-items.ensures.canonical.solid;
+      };
+      faultless = record {
+        file = subst (λ bytes. HasNoFault bytes) (sym whole.by) (mask-no_fault c.args.head.now out c.args.grid rects args.header args.dates args.units records);
+        layout = layout;
+        reading = described;
+        top = mask-top c.args.head.now out c.args.grid rects;
+        references = mask-references c.args.head.now out c.args.grid rects;
+        cycles = mask-no_cycle c.args.head.now out c.args.grid rects;
+        shapes = mask-shapes c.args.head.now out c.args.grid rects args.grid.0;
       };
     }
