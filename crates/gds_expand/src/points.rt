@@ -8,7 +8,7 @@ use std::alloc::{AllocError, Global};
 
 /// What an element places: the points of a shape on the chosen layer, or copies of a structure.
 #[derive(Clone, Copy, Debug)]
-pub enum Part {
+pub(crate) enum Part {
     Points(u64),
     Copies(u64, usize),
 }
@@ -30,7 +30,7 @@ fn points_of(parts: &[Part], counts: &[u64]) -> u64
 }
 
 /// The points that each structure of the order places, or 2^64 - 1 where they are more.
-pub fn point_counts(
+pub(crate) fn point_counts(
     alloc: Global,
     plan: &[Vec<Part>],
     order: &[usize],

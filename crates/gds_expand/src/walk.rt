@@ -10,14 +10,14 @@ use std::alloc::{AllocError, Global};
 
 /// What a structure places: a shape, or a copy of what another structure places.
 #[derive(Clone, Copy, Debug)]
-pub enum Step<'a> {
+pub(crate) enum Step<'a> {
     Shape(&'a Shape),
     Copy(usize, Placement),
 }
 
 /// A shape, as a chain of references places it.
 #[derive(Clone, Copy, Debug)]
-pub struct PlacedShape<'a> {
+pub(crate) struct PlacedShape<'a> {
     pub shape: &'a Shape,
     pub placement: Placement,
 }
@@ -31,7 +31,7 @@ struct Task {
 }
 
 /// The shapes that the top places, in order.
-pub fn placed_shapes<'a>(
+pub(crate) fn placed_shapes<'a>(
     alloc: Global,
     plan: &[Vec<Step<'a>>],
     top: usize,
