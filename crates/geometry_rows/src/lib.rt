@@ -1,0 +1,19 @@
+//! Worked examples of the geometry of masks, as tests: shapes and their union, fragments and moves, the mask rules, and
+//! the mask file, each by direct calls of the layer.
+//!
+//! `shapes` makes regions of polygons and rectangles. `moving` holds a target's fragments with offsets that keep all
+//! rules, and judges moves. `plain_rules` judges a whole outline pixel by pixel, and is what `first_broken` is compared
+//! with. Each other module has the rows of one subject, with numbers that were found by hand.
+#![tactic(auto)]
+
+pub mod fault;
+#[cfg(test)]
+mod fragment_rows;
+#[cfg(test)]
+mod move_rows;
+pub mod moving;
+#[cfg(test)]
+mod region_rows;
+#[cfg(test)]
+mod rows;
+pub mod shapes;
