@@ -1,3 +1,2 @@
 pub mod Elements
-mod ImageLaws
 pub mod ProbeLaws
