@@ -50,9 +50,9 @@ fn status_of_fault(fault: &EngineFault) -> u8
     ensures { result ≡ status_of_fault fault.now }
 {
     match fault {
-        EngineFault::NotYet { which } | EngineFault::TooLong { which } => status_of_which(*which),
+        EngineFault::TooLong { which } => status_of_which(*which),
         EngineFault::Kernels(_) => BAD_KERNELS,
-        EngineFault::Layout(_) => BAD_LAYOUT,
+        EngineFault::Layout(_) | EngineFault::Place(_) | EngineFault::TooManyCorners => BAD_LAYOUT,
         EngineFault::NoMemory => NO_MEMORY,
     }
 }
