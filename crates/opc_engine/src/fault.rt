@@ -5,7 +5,6 @@ use gds_model::{LayoutFault, PlaceFault};
 use kernel_file::KernelFault;
 use opc_base::NoMemory;
 use rect_union::UnionFault;
-use std::alloc::AllocError;
 
 /// Why the bytes of the files call for no answer. A wrapped fault is never the lower want of memory.
 #[derive(Clone, Copy, Debug, PartialEq, Eq)]
@@ -31,17 +30,6 @@ impl From<NoMemory> for EngineFault {
     ghost from_gives = { λ _ e. e ≡ engine.NoMemory };
 
     fn from(_: NoMemory) -> Self {
-        EngineFault::NoMemory
-    }
-}
-
-impl From<AllocError> for EngineFault {
-    ghost use Rattle.std.specs.Prelude.{◌≡◌};
-    ghost use Rattle.opc_engine.specs.declared.fault.EngineFault.TheVariants as engine;
-
-    ghost from_gives = { λ _ e. e ≡ engine.NoMemory };
-
-    fn from(_: AllocError) -> Self {
         EngineFault::NoMemory
     }
 }

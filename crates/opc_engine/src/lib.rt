@@ -16,6 +16,7 @@
 mod ask;
 mod fault;
 mod image;
+mod kernels;
 mod layout;
 mod limits;
 mod one_pixel;
