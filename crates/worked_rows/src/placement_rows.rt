@@ -174,3 +174,37 @@ fn great_arrays(rt: HostRuntime) -> Result<(), NoMemory> {
     check_refused(&rt, alloc, &nested_arrays(alloc, true)?, too_many)?;
     check_cover(&rt, alloc, &nested_arrays(alloc, false)?, &[(0, 0, 0)])
 }
+
+/// A name of four letters for each number below 65,536.
+fn name_of(number: u32) -> [u8; 4] {
+    [
+        letter(number / 4096),
+        letter(number / 256),
+        letter(number / 16),
+        letter(number),
+    ]
+}
+
+fn letter(number: u32) -> u8 {
+    b'A' + (number % 16) as u8
+}
+
+/// So many structures, each a copy of the next; the last has a square.
+fn chain(alloc: Global, count: u32) -> Result<Vec<u8>, NoMemory> {
+    let mut drawing = Drawing::new(alloc)?;
+    for number in 1..count {
+        let name = name_of(number);
+        drawing.copy(&name, UPRIGHT, (0, 0))?;
+        drawing.structure(&name)?;
+    }
+    drawing.square(0, 0, 10)?;
+    drawing.end()
+}
+
+#[test]
+fn the_longest_chain_of_structures(rt: HostRuntime) -> Result<(), NoMemory> {
+    let alloc = rt.alloc();
+    check_cover(&rt, alloc, &chain(alloc, 65_535)?, &[(9, 9, 1)])?;
+    let too_many = "opc: layout: too many structures at 4849652\n";
+    check_refused(&rt, alloc, &chain(alloc, 65_536)?, too_many)
+}
