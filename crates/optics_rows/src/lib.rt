@@ -1,7 +1,8 @@
 //! Worked examples of the image without a look at pixels, as tests: tables, signed corners and lanes by direct calls.
 //!
-//! `sets` makes sets of kernels, `seeds` sets and rectangles from a seed, `regions` the regions of rectangles, and `images`
-//! sums the image of a region from tables. Each other module has the rows of one subject, with numbers that were found by hand, or by the plain pixel sum.
+//! `sets` makes sets of kernels, `seeds` sets and rectangles from a seed, `regions` the regions of rectangles, and
+//! `images` sums the image of a region from tables. Each other module has the rows of one subject, with numbers that were
+//! found by hand, or by the plain pixel sum.
 #![tactic(auto)]
 
 #[cfg(test)]
