@@ -1,7 +1,7 @@
 -- The eight corners of two bars that overlap give a set of pixels.
-use Rattle.std.proofs.Common.{◌≡◌, ◌⊎◌, inl, inr, ℕ, ℤ, pos, negsuc, ◌+ℤ◌, ◌≤ℤ◌, int_le, Bool, true, false, ◌&&◌, if◌then◌else◌, List, [], ◌∷◌, All, refl, sym, ◌∙◌, ap, subst, arith}
+use Rattle.std.proofs.Common.{◌≡◌, ◌⊎◌, inl, inr, ℤ, pos, negsuc, ◌+ℤ◌, ◌≤ℤ◌, int_le, Bool, true, false, ◌&&◌, if◌then◌else◌, List, [], ◌∷◌, All, refl, ◌∙◌, ap, arith}
 use Rattle.std.proofs.lemmas.Int.{ints}
-use Rattle.std.proofs.lemmas.List.Elements.{All-nil, All-cons}
+use Rattle.std.proofs.lemmas.List.Elements.{All-from_recursion}
 use Rattle.opc_base.specs.declared.plane.Corner.{Corner}
 use Rattle.opc_base.specs.Corners.{quadrant_sum}
 use Rattle.opc_base.specs.Sums.{sum_each}
@@ -125,19 +125,14 @@ far_right four e = refl
 far_right _ e = absurd (let no : ⊥ = cc in no)
 
 at_bit : (z w : ℤ) → z ≡ w → (w ≡ pos 0) ⊎ (w ≡ pos 1) → (z ≡ pos 0) ⊎ (z ≡ pos 1)
-at_bit z w e (inl zero) = inl (e ∙ zero)
-at_bit z w e (inr one) = inr (e ∙ one)
+at_bit z w e (inl nothing) = inl (e ∙ nothing)
+at_bit z w e (inr whole) = inr (e ∙ whole)
 
 past : (a x : ℤ) → a ≤ℤ x → true ≡ int_le a x
 past a x below = grind (arith, ints)
 
 within : All (IsCornerWithin 1048576) corners
-within =
-    All-cons (IsCornerWithin 1048576) _ _ (omega arith, omega arith) (All-cons (IsCornerWithin 1048576) _ _ (omega arith, omega arith)
-    (All-cons (IsCornerWithin 1048576) _ _ (omega arith, omega arith) (All-cons (IsCornerWithin 1048576) _ _ (omega arith, omega arith)
-    (All-cons (IsCornerWithin 1048576) _ _ (omega arith, omega arith) (All-cons (IsCornerWithin 1048576) _ _ (omega arith, omega arith)
-    (All-cons (IsCornerWithin 1048576) _ _ (omega arith, omega arith) (All-cons (IsCornerWithin 1048576) _ _ (omega arith, omega arith)
-    (All-nil (IsCornerWithin 1048576)))))))))
+within = All-from_recursion (IsCornerWithin 1048576) corners ((omega arith, omega arith), ((omega arith, omega arith), ((omega arith, omega arith), ((omega arith, omega arith), ((omega arith, omega arith), ((omega arith, omega arith), ((omega arith, omega arith), ((omega arith, omega arith), tt))))))))
 
 pub are_corners : AreCornersOfSet corners
 are_corners = record {
