@@ -1,10 +1,9 @@
 -- Offsets that keep all rules, before and after a move.
-use Rattle.std.proofs.Common.{◌≡◌, ℕ, ◌<◌, ◌≤◌, ℤ, pos, neg_ℤ, ◌≤ℤ◌, int_le, Bool, true, false, List, length, get_or, set, replicate, All, ◌↔◌, ◌⊎◌, inl, inr, refl, sym, ◌∙◌, subst, arith}
+use Rattle.std.proofs.Common.{◌≡◌, ℕ, ◌<◌, ℤ, pos, ◌≤ℤ◌, int_le, Bool, true, false, List, length, get_or, set, replicate, All, inl, inr, refl, ◌∙◌, arith}
 use Rattle.std.proofs.lemmas.Int.{ints}
 use Rattle.std.proofs.lemmas.Bool.{cases_lt}
 use Rattle.std.proofs.Math.ListN.{get_or-eq_default}
 use Rattle.std.proofs.lemmas.List.{get_or-replicate, length-replicate, length-set}
-use Rattle.opc_base.specs.declared.broken.Broken.{Broken}
 use Rattle.opc_base.specs.declared.broken.RuleName.TheVariants.{M1, M2, M3, M4}
 use Rattle.opc_base.specs.declared.broken.Place.TheVariants.{Pixel, Fragment as FragmentNumber}
 use Rattle.opc_base.specs.declared.plane.Rect.{Rect}

@@ -9,6 +9,8 @@ use std::alloc::{AllocError, AllocFailed};
 pub enum RowFault {
     /// These points are no polygon, or these sides no rectangle.
     NoShape,
+    /// The file is no layout of one structure of this name.
+    NoLayout,
     /// The target breaks a rule of masks.
     BreaksRules,
     /// The target has too many corners.

@@ -6,14 +6,24 @@
 //! with. Each other module has the rows of one subject, with numbers that were found by hand.
 #![tactic(auto)]
 
+#[cfg(test)]
+mod cover_rows;
+pub mod dice;
 pub mod fault;
 #[cfg(test)]
 mod fragment_rows;
 #[cfg(test)]
+mod judge_rows;
+#[cfg(test)]
+mod mask_rows;
+#[cfg(test)]
 mod move_rows;
 pub mod moving;
+pub mod outline_walk;
+pub mod plain_rules;
 #[cfg(test)]
 mod region_rows;
 #[cfg(test)]
 mod rows;
 pub mod shapes;
+pub mod written;

@@ -1,7 +1,7 @@
 //! A target's fragments at offsets that keep all rules, and moves of them.
 ghost use Rattle.std.specs.Prelude.{◌≡◌, ◌<◌, ℤ, All, IfOk, length};
 ghost use Rattle.opc_base.specs.Plane.{IsRectWithin, cover};
-ghost use Rattle.opc_base.specs.Runs.{IsCornerTouch};
+ghost use Rattle.mask_rules.specs.TargetRules.{KeepsTarget};
 ghost use Rattle.outline_model.specs.Target.{IsBoundary};
 
 use crate::fault::RowFault;
@@ -43,10 +43,7 @@ impl Moving {
         requires { All (IsRectWithin 1048000) region.now }
     {
         let _ = region.rects();
-        if check_target(alloc, region, &rules)?.is_some() {
-            return Err(RowFault::BreaksRules);
-        }
-        let fragments = fragments_of(alloc, region, cut_rules)?;
+        let fragments = target_fragments(alloc, region, cut_rules, &rules)?;
         let near = Near::build(alloc, &fragments)?;
         let offsets = vec![in alloc; 0; fragments.count() as usize]?;
         Ok(Moving {
@@ -105,13 +102,21 @@ impl Moving {
     }
 }
 
-/// The fragments of a region that nowhere touches itself at a corner only.
-pub fn fragments_of(alloc: Global, region: &Region, rules: &CutRules) -> Result<Fragments, RowFault>
-    requires no_touch { (x y : ℤ) → ¬ IsCornerTouch (cover region.now) x y }
-    requires placed { All (IsRectWithin 1048000) region.now }
-    ensures { IfOk result (IsBoundary (cover region.now)) }
+/// The fragments of a target that keeps the rules of targets.
+pub fn target_fragments(
+    alloc: Global,
+    region: &Region,
+    cut_rules: &CutRules,
+    rules: &MaskRules,
+) -> Result<Fragments, RowFault>
+    requires { All (IsRectWithin 1048000) region.now }
+    ensures keeps { IfOk result (λ _. KeepsTarget rules.now (cover region.now)) }
+    ensures boundary { IfOk result (IsBoundary (cover region.now)) }
 {
-    match cut(alloc, region, rules) {
+    if check_target(alloc, region, rules)?.is_some() {
+        return Err(RowFault::BreaksRules);
+    }
+    match cut(alloc, region, cut_rules) {
         Ok(fragments) => Ok(fragments),
         Err(CutFault::TooManyFragments { count }) => Err(RowFault::TooManyFragments(count)),
         Err(CutFault::NoMemory) => Err(RowFault::NoMemory),

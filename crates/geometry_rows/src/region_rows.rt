@@ -1,6 +1,8 @@
 //! Unions of shapes, worked out by hand.
 
 use crate::shapes::{Shapes, rect, region_of_polygons, region_of_rects};
+use opc_base::Corner;
+use rect_union::region_of;
 use std::test::Fail;
 
 // Squares walked in opposite ways, of which the second lies on a quarter of the first.
@@ -109,5 +111,57 @@ fn a_hole_in_a_hole(rt: HostRuntime) -> Result<(), Fail> {
 fn no_shape(rt: HostRuntime) -> Result<(), Fail> {
     let region = Shapes::new(rt.alloc()).union(rt.alloc())?;
     assert_eq!(rt; region.rects().len(), 0);
+    Ok(())
+}
+
+/// The corners of two bars that overlap, by rows from below.
+const CORNERS: [Corner; 8] = [
+    Corner {
+        x: 0,
+        y: 0,
+        sign: 1,
+    },
+    Corner {
+        x: 10,
+        y: 0,
+        sign: -1,
+    },
+    Corner {
+        x: 10,
+        y: 2,
+        sign: 1,
+    },
+    Corner {
+        x: 12,
+        y: 2,
+        sign: -1,
+    },
+    Corner {
+        x: 0,
+        y: 4,
+        sign: -1,
+    },
+    Corner {
+        x: 5,
+        y: 4,
+        sign: 1,
+    },
+    Corner {
+        x: 5,
+        y: 8,
+        sign: -1,
+    },
+    Corner {
+        x: 12,
+        y: 8,
+        sign: 1,
+    },
+];
+
+#[test]
+fn the_corners_of_two_bars(rt: HostRuntime) -> Result<(), Fail> {
+    let region = region_of(rt.alloc(), &CORNERS)?;
+    let wanted = [rect(0, 0, 10, 2), rect(0, 2, 12, 4), rect(5, 4, 12, 8)];
+    assert_eq!(rt; region.rects(), wanted.as_slice());
     Ok(())
 }

@@ -1,0 +1,39 @@
+#!/usr/bin/env python3
+"""Prints how long fragments, moves and the mask file take.
+
+usage: bench/geometry.py PROGRAM
+
+PROGRAM is the built program (`rt run` in crates/bench_geometry leaves it as crates/bench_geometry/out/bench_geometry). Each
+layer is run with what it stands on and then without, and the difference of the best of five wall times is printed. Run
+by hand; the gate never runs it.
+"""
+import subprocess
+import sys
+import time
+
+
+def best(program, layer, count):
+    """The least wall time of five runs, in seconds."""
+    times = []
+    for _ in range(5):
+        begin = time.perf_counter()
+        subprocess.run([program, layer, str(count)], check=True, stdout=subprocess.DEVNULL)
+        times.append(time.perf_counter() - begin)
+    return min(times)
+
+
+def main():
+    if len(sys.argv) != 2:
+        sys.exit(__doc__)
+    program = sys.argv[1]
+    cut = best(program, "cut", 8192) - best(program, "target", 8192)
+    print(f"cut of 32,768 fragments: {cut * 1e3:.1f} ms")
+    moves = 200_000
+    judged = best(program, "moves", moves) - best(program, "moves", 0)
+    print(f"first_broken, of 32,768 fragments: {judged / moves * 1e6:.2f} microseconds a move")
+    mask = best(program, "mask", 65536) - best(program, "tower", 65536)
+    print(f"write_mask of 65,536 rectangles: {mask * 1e3:.1f} ms")
+
+
+if __name__ == "__main__":
+    main()

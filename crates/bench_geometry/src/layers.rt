@@ -1,0 +1,123 @@
+//! The pieces of work.
+
+use crate::fault::BenchFault;
+use crate::layouts::{HIGHEST, squares, tower};
+use geometry_rows::dice::Dice;
+use geometry_rows::fault::RowFault;
+use geometry_rows::moving::{Moving, target_fragments};
+use geometry_rows::written::{out_pick, write};
+use mask_rules::check_target;
+use opc_base::{CutRules, MaskRules};
+use std::alloc::Global;
+
+/// Edges stay whole up to 109 pixels.
+const CUT: CutRules = CutRules {
+    piece: 100,
+    corner_out: 5,
+    corner_in: 5,
+    line_end: 10,
+};
+
+/// Runs have at least two pixels.
+const MASK: MaskRules = MaskRules {
+    width: 2,
+    space: 2,
+    max_in: 8,
+    max_out: 16,
+};
+
+/// The squares whose fragments move: 32,768 fragments.
+const MOVED_SQUARES: u32 = 8192;
+
+/// One piece of work, and its line.
+pub fn run(alloc: Global, layer: &str, count: u32) -> Result<String, BenchFault> {
+    match layer {
+        "tower" => run_tower(alloc, count),
+        "mask" => run_mask(alloc, count),
+        "target" => run_target(alloc, count),
+        "cut" => run_cut(alloc, count, false),
+        "odd" => run_cut(alloc, count, true),
+        "moves" => run_moves(alloc, MOVED_SQUARES, count),
+        _ => Err(BenchFault::Words),
+    }
+}
+
+/// A small piece of each, and the cut at its limit.
+pub fn run_all(alloc: Global) -> Result<String, BenchFault> {
+    let mask = run_mask(alloc, 100)?;
+    let least = run_cut(alloc, 8192, false)?;
+    let most = run_cut(alloc, 8190, true)?;
+    let moves = run_moves(alloc, 64, 1000)?;
+    Ok(format!(in alloc; "{mask}\n{least}\n{most}\n{moves}")?)
+}
+
+fn run_tower(alloc: Global, count: u32) -> Result<String, BenchFault> {
+    let region = tower(alloc, count.min(HIGHEST))?;
+    let rects = region.rects().len();
+    Ok(format!(in alloc; "tower {rects}")?)
+}
+
+fn run_mask(alloc: Global, count: u32) -> Result<String, BenchFault> {
+    let region = tower(alloc, count.min(HIGHEST))?;
+    let file = write(alloc, &region, &out_pick(alloc, b"MASK")?, 1)?;
+    let bytes = file.as_slice();
+    let sum = sum_of(bytes);
+    let size = bytes.len();
+    Ok(format!(in alloc; "mask {size} sum {sum}")?)
+}
+
+/// The sum of the bytes, each times a number that its place gives.
+fn sum_of(bytes: &[u8]) -> u32 {
+    let mut sum = 0u32;
+    for byte in bytes {
+        sum = sum.wrapping_mul(31).wrapping_add(u32::from(*byte));
+    }
+    sum
+}
+
+/// What a cut is made of: squares that keep the rules of targets.
+fn run_target(alloc: Global, count: u32) -> Result<String, BenchFault> {
+    let region = squares(alloc, count, false)?;
+    let keeps = check_target(alloc, &region, &MASK)?.is_none();
+    let rects = region.rects().len();
+    Ok(format!(in alloc; "target {rects} keeps {keeps}")?)
+}
+
+fn run_cut(alloc: Global, count: u32, with_angle: bool) -> Result<String, BenchFault> {
+    let region = squares(alloc, count, with_angle)?;
+    match target_fragments(alloc, &region, &CUT, &MASK) {
+        Ok(fragments) => {
+            let count = fragments.count();
+            Ok(format!(in alloc; "cut {count} fragments")?)
+        }
+        Err(RowFault::TooManyFragments(count)) => {
+            Ok(format!(in alloc; "cut refuses {count} fragments")?)
+        }
+        Err(fault) => Err(BenchFault::Row(fault)),
+    }
+}
+
+fn run_moves(alloc: Global, squares_moved: u32, count: u32) -> Result<String, BenchFault> {
+    let region = squares(alloc, squares_moved, false)?;
+    let mut moving = Moving::of_target(alloc, &region, &CUT, MASK)?;
+    let refused = refused_moves(&mut moving, count)?;
+    Ok(format!(in alloc; "moves {count} refused {refused}")?)
+}
+
+/// So many random moves by up to two pixels.
+fn refused_moves(moving: &mut Moving, count: u32) -> Result<u32, BenchFault> {
+    let fragments = moving.fragments().count();
+    if fragments == 0 {
+        return Ok(0);
+    }
+    let mut dice = Dice::new(1);
+    let mut refused = 0u32;
+    for _ in 0..count {
+        let i = dice.roll(fragments);
+        let to = dice.place() % 5 - 2;
+        if moving.take(i, to)?.is_some() {
+            refused = refused.saturating_add(1);
+        }
+    }
+    Ok(refused)
+}
