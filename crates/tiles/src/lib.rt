@@ -23,4 +23,4 @@ mod places;
 mod touched;
 
 pub use index::{Tile, TileIndex};
-pub use touched::Touched;
+pub use touched::{Touched, meet};
