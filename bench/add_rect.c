@@ -23,6 +23,10 @@ static int16_t entries[KERNELS][PLACES][PLACES][2];
 static int64_t table[WIDTH][WIDTH][LANES];
 static int64_t ground[LANES];
 
+/* As in the proved program, these are known when it runs, and not when it is compiled. */
+static volatile int set_reach = REACH, set_lanes = LANES;
+static int reach, lane_count;
+
 static void read_entry(int16_t *entry, int most)
 {
     entry[0] = (int16_t)next_number(-most, 2 * most + 1);
@@ -59,21 +63,25 @@ static void build(void)
 
 static int clamped(int d)
 {
-    int low = d < -REACH - 1 ? -REACH - 1 : d;
-    return (low > REACH ? REACH : low) + REACH + 1;
+    int low = d < -reach - 1 ? -reach - 1 : d;
+    return (low > reach ? reach : low) + reach + 1;
 }
 
 static const int64_t *block(int dx, int dy)
 {
-    return table[clamped(dy)][clamped(dx)];
+    size_t width = 2 * (size_t)reach + 2;
+    return &table[0][0][0] + ((size_t)clamped(dy) * width + (size_t)clamped(dx)) * (size_t)lane_count;
 }
 
 static void add_rect(int64_t *lanes, int x0, int y0, int x1, int y1)
 {
     const int64_t *a = block(-x0, -y0), *b = block(-x1, -y0), *c = block(-x0, -y1), *d = block(-x1, -y1);
-    for (int lane = 0; lane < LANES; lane += 8)
+    int lane = 0;
+    for (; lane + 8 <= lane_count; lane += 8)
         *(eight *)(lanes + lane) += *(const eight *)(a + lane) - *(const eight *)(b + lane) - *(const eight *)(c + lane)
             + *(const eight *)(d + lane);
+    for (; lane < lane_count; lane++)
+        lanes[lane] += a[lane] - b[lane] - c[lane] + d[lane];
 }
 
 int main(int argc, char **argv)
@@ -81,6 +89,8 @@ int main(int argc, char **argv)
     uint32_t count = argc > 1 ? (uint32_t)strtoul(argv[1], NULL, 10) : 1000;
     int64_t lanes[LANES];
     uint64_t sum = 0;
+    reach = set_reach;
+    lane_count = set_lanes;
     build();
     for (uint32_t turn = 0; turn < count; turn++) {
         int x0 = next_number(-100, 201), x1 = x0 + next_number(1, 100);

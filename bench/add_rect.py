@@ -8,6 +8,7 @@ bench/add_rect.c, is compiled with $CC or cc for the processor that the kit buil
 which has to be the same. Run by hand; the gate never runs it.
 """
 import os
+import resource
 import subprocess
 import sys
 import tempfile
@@ -18,14 +19,15 @@ PROVED = os.path.join(HERE, "..", "crates", "bench_sums", "out", "bench_sums")
 RUNS = 5
 
 
-def seconds(program, count):
-    """The least wall time of a few runs, and what the program printed."""
-    times = []
+def run(program, count):
+    """The least wall time and processor time of a few runs, and what the program printed."""
+    walls, users = [], []
     for _ in range(RUNS):
-        start = time.perf_counter()
+        user, start = resource.getrusage(resource.RUSAGE_CHILDREN).ru_utime, time.perf_counter()
         done = subprocess.run([program, str(count)], check=True, capture_output=True, text=True)
-        times.append(time.perf_counter() - start)
-    return min(times), done.stdout.strip()
+        walls.append(time.perf_counter() - start)
+        users.append(resource.getrusage(resource.RUSAGE_CHILDREN).ru_utime - user)
+    return min(walls), min(users), done.stdout.strip()
 
 
 def main():
@@ -36,11 +38,11 @@ def main():
         subprocess.run([compiler, "-O3", "-march=x86-64-v2", "-o", written, os.path.join(HERE, "add_rect.c")], check=True)
         each = []
         for name, program in (("proved", PROVED), ("C", written)):
-            start, _ = seconds(program, 0)
-            whole, said = seconds(program, count)
-            each.append((whole - start, said))
-            print(f"{name}: tables {start * 1e3:.1f} ms, {count} rectangles {(whole - start) * 1e3:.0f} ms, "
-                  f"{(whole - start) / count * 1e9:.1f} ns each, number {said}")
+            tables, before, _ = run(program, 0)
+            _, after, said = run(program, count)
+            each.append((after - before, said))
+            print(f"{name}: start and tables {tables * 1e3:.1f} ms, {count} rectangles {(after - before) * 1e3:.0f} ms, "
+                  f"{(after - before) / count * 1e9:.1f} ns each, number {said}")
     (proved, said), (by_hand, wanted) = each
     print(f"ratio {proved / by_hand:.2f}, the numbers are {'the same' if said == wanted else 'DIFFERENT'}")
 
