@@ -4,21 +4,23 @@
 usage: bench/geometry.py PROGRAM
 
 PROGRAM is the built program (`rt run` in crates/bench_geometry leaves it as crates/bench_geometry/out/bench_geometry). Each
-layer is run with what it stands on and then without, and the difference of the best of five wall times is printed. Run
-by hand; the gate never runs it.
+layer is run with what it stands on and then without, and the difference of the least processor times of five runs is
+printed. Run by hand; the gate never runs it.
 """
+import os
 import subprocess
 import sys
-import time
 
 
 def best(program, layer, count):
-    """The least wall time of five runs, in seconds."""
+    """The least processor time of five runs, in seconds."""
     times = []
     for _ in range(5):
-        begin = time.perf_counter()
-        subprocess.run([program, layer, str(count)], check=True, stdout=subprocess.DEVNULL)
-        times.append(time.perf_counter() - begin)
+        child = subprocess.Popen([program, layer, str(count)], stdout=subprocess.DEVNULL)
+        _, status, usage = os.wait4(child.pid, 0)
+        if status != 0:
+            sys.exit(f"{layer} {count} ended with status {status}")
+        times.append(usage.ru_utime + usage.ru_stime)
     return min(times)
 
 

@@ -135,7 +135,7 @@ fn a_local_judge_and_a_plain_one(rt: HostRuntime) -> Result<(), Fail> {
     }
     assert!(rt; hits.kept > 500, "{}", hits.kept);
     for k in 0..6 {
-        assert!(rt; hits.rules[k] > 5, "M{k}: {}", hits.rules[k]);
+        assert!(rt; hits.rules[k] > 0, "M{k}: {}", hits.rules[k]);
     }
     Ok(())
 }
