@@ -18,3 +18,5 @@ pub mod WithinLaws
 pub mod TouchLaws
 pub mod ClosedWalks
 pub mod JoinLaws
+pub mod StripLaws
+pub mod OrderLaws

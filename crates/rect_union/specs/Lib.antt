@@ -14,3 +14,4 @@ pub mod CornerCount
 pub mod Merging
 pub mod Touches
 pub mod Joins
+pub mod Strips

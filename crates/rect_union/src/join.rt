@@ -10,13 +10,16 @@ ghost use Rattle.opc_base.specs.Plane.{IsRectWithin, cover};
 ghost use Rattle.opc_base.specs.Target.{target};
 ghost use Rattle.rect_union.specs.Joins.{IsJoinOf, JoinsTo};
 
-use crate::outlines::quadrants_of;
-use crate::quadrants::sort_rows;
-use crate::sweep::region_of_quadrants;
+use crate::spread::{are_many_in_rows, outline_size, rects_of, strip_borders};
+use crate::strips::striped_rects;
+use crate::swept::swept_rects;
 use opc_base::{Outline, Rect, Rects};
 use std::alloc::{AllocError, Global};
 
 const GROUP: usize = 4;
+
+/// Outlines with no more points or rectangles than this are swept at once.
+const SMALL: usize = 256;
 
 /// The canonical rectangles of the pixels that some outline covers.
 pub fn joined_rects(alloc: Global, outlines: &[Outline]) -> Result<Vec<Rect>, AllocError>
@@ -33,17 +36,23 @@ pub fn joined_rects(alloc: Global, outlines: &[Outline]) -> Result<Vec<Rect>, Al
     Ok(rects)
 }
 
-/// The same by one sweep over all of them.
+/// The same without joining groups: by one sweep, or in strips where many rectangles lie in a row.
 pub fn target_rects(alloc: Global, outlines: &[Outline]) -> Result<Vec<Rect>, AllocError>
     requires placed { All IsPlaced outlines.now }
     ensures canonical { IfOk result (λ rects. AreCanonical rects.items) }
     ensures within { IfOk result (λ rects. All (IsRectWithin 1048000) rects.items) }
     ensures pixels { IfOk result (λ rects. (x y : ℤ) → cover rects.items x y ≡ target outlines.now x y) }
 {
-    let mut quadrants = quadrants_of(alloc, outlines)?;
-    sort_rows(&mut quadrants);
-    let rects = region_of_quadrants(alloc, outlines.len(), &quadrants)?;
-    Ok(rects)
+    if outline_size(outlines) <= SMALL {
+        return swept_rects(alloc, outlines);
+    }
+    let rects = rects_of(alloc, outlines)?;
+    if !are_many_in_rows(alloc, &rects)? {
+        return swept_rects(alloc, outlines);
+    }
+    let borders = strip_borders(alloc, &rects)?;
+    let striped = striped_rects(alloc, &rects, &borders)?;
+    Ok(striped)
 }
 
 /// Outlines that cover the same, fewer where there are many.

@@ -10,8 +10,11 @@ mod quadrants;
 mod rect_corners;
 mod run;
 mod runs;
+mod spread;
 mod stack;
+mod strips;
 mod sweep;
+mod swept;
 mod target;
 mod windings;
 

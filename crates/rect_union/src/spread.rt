@@ -1,0 +1,111 @@
+//! The rectangles of outlines, and where sweeps of them are worth to be cut.
+
+ghost use Rattle.std.specs.Prelude.{◌≡◌, ◌<◌, ℤ, ◌||◌, All, IfOk, OnOk};
+ghost use Rattle.opc_base.specs.Cover.{AreRectangles, IsPlaced, outline_cover};
+ghost use Rattle.opc_base.specs.Plane.{cover};
+ghost use Rattle.opc_base.specs.Target.{target};
+
+use crate::swept::swept_rects;
+use opc_base::{Outline, Rect};
+use std::alloc::{AllocError, Global};
+use std::slice;
+
+/// So many rectangles in a row, on the average, are swept at once.
+const FEW_IN_ROW: usize = 64;
+
+/// A strip has about so many vertical sides, or more where there would be too many strips.
+const SIDES_IN_STRIP: usize = 64;
+
+const MOST_STRIPS: usize = 1024;
+
+/// Rectangles that cover what the outlines do: those of the paths, and those of each polygon.
+pub fn rects_of(alloc: Global, outlines: &[Outline]) -> Result<Vec<Rect>, AllocError>
+    requires placed { All IsPlaced outlines.now }
+    ensures placed { IfOk result (λ rects. AreRectangles rects.items) }
+    ensures pixels { IfOk result (λ rects. (x y : ℤ) → cover rects.items x y ≡ target outlines.now x y) }
+{
+    let mut rects = Vec::new(alloc);
+    for outline in outlines {
+        add_rects(alloc, &mut rects, outline)?;
+    }
+    Ok(rects)
+}
+
+fn add_rects(alloc: Global, rects: &mut Vec<Rect>, outline: &Outline) -> Result<(), AllocError>
+    requires placed { IsPlaced outline.now }
+    requires rects { AreRectangles rects.old.items }
+    ensures placed { OnOk result (AreRectangles rects.new.items) }
+    ensures pixels { OnOk result ((x y : ℤ) → cover rects.new.items x y ≡ (cover rects.old.items x y || outline_cover outline.now x y)) }
+{
+    match outline {
+        Outline::Polygon(_) => {
+            let swept = swept_rects(alloc, slice::from_ref(outline))?;
+            rects.extend_from_slice(&swept)?;
+        }
+        Outline::Path(path) => rects.extend_from_slice(path.as_slice())?,
+    }
+    Ok(())
+}
+
+/// Whether a row has many of the rectangles, on the average of the rows in which one begins or ends.
+pub fn are_many_in_rows(alloc: Global, rects: &[Rect]) -> Result<bool, AllocError> {
+    let mut ends = Vec::new(alloc);
+    for rect in rects {
+        ends.push((rect.y0, true))?;
+        ends.push((rect.y1, false))?;
+    }
+    ends.sort_unstable();
+    Ok(rects_met(&ends) / FEW_IN_ROW > ends.len())
+}
+
+/// How many rectangles the rows have where one begins or ends, given by row, and whether it begins.
+fn rects_met(ends: &[(i32, bool)]) -> usize {
+    let mut here: usize = 0;
+    let mut met: usize = 0;
+    for (_, begins) in ends {
+        if *begins {
+            here = here.saturating_add(1);
+        } else {
+            here = here.saturating_sub(1);
+        }
+        met = met.saturating_add(here);
+    }
+    met
+}
+
+/// Borders from the left, with about equally many vertical sides between them.
+pub fn strip_borders(alloc: Global, rects: &[Rect]) -> Result<Vec<i32>, AllocError> {
+    let mut sides = Vec::new(alloc);
+    for rect in rects {
+        sides.push(rect.x0)?;
+        sides.push(rect.x1)?;
+    }
+    sides.sort_unstable();
+    let borders = every(alloc, &sides, SIDES_IN_STRIP.max(sides.len() / MOST_STRIPS))?;
+    Ok(borders)
+}
+
+/// Each number whose index is a multiple of the step, which is not 0.
+fn every(alloc: Global, numbers: &[i32], step: usize) -> Result<Vec<i32>, AllocError>
+    requires some { 0 < step }
+{
+    let mut kept = Vec::new(alloc);
+    for (index, number) in numbers.iter().enumerate() {
+        if index % step == 0 {
+            kept.push(*number)?;
+        }
+    }
+    Ok(kept)
+}
+
+/// How many points and rectangles the outlines have.
+pub fn outline_size(outlines: &[Outline]) -> usize {
+    let mut size: usize = 0;
+    for outline in outlines {
+        size = size.saturating_add(match outline {
+            Outline::Polygon(points) => points.as_slice().len(),
+            Outline::Path(rects) => rects.as_slice().len(),
+        });
+    }
+    size
+}
