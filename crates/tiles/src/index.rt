@@ -140,6 +140,7 @@ impl TileIndex {
         ensures sites { result.0.sites.now ≡ fragments_of self.now tile }
         ensures own { result.0.sums.now ≡ take (stride * length (fragments_of self.now tile)) sums.old }
         ensures rest { result.1.now ≡ drop (stride * length (fragments_of self.now tile)) sums.old }
+        ensures all { result.0.sums.now ++ result.1.now ≡ sums.old }
     {
         let sites = self.fragments(tile);
         let (own, rest) = sums.split_at_mut(stride * sites.len());

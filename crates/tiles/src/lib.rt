@@ -20,6 +20,8 @@ mod groups;
 mod index;
 mod key;
 mod places;
+#[cfg(test)]
+mod tests;
 mod touched;
 
 pub use index::{Tile, TileIndex};
