@@ -1,3 +1,4 @@
 pub mod PartLaws
 pub mod StoredLaws
 pub mod SeenLaws
+pub mod SmallLaws
