@@ -61,6 +61,23 @@ def tall(count):
     return layout(structure(b"TOP", bytes(elements)))
 
 
+def active(count):
+    """So many rectangles that nearly all are active in each of some thousand rows, few corners left of them."""
+    source = random.Random(SEED)
+    elements = bytearray()
+    for i in range(count):
+        x = 5 * i
+        elements += boundary(1, x, source.randrange(1000), x + 100_000, 500_000 - source.randrange(1000))
+    return layout(structure(b"TOP", bytes(elements)))
+
+
+def comb(count):
+    """So many columns apart from one another, of different heights in no order: four corners each."""
+    heights = list(range(1, count + 1))
+    random.Random(SEED).shuffle(heights)
+    return layout(structure(b"TOP", b"".join(boundary(1, 2 * i, -heights[i], 2 * i + 1, heights[i]) for i in range(count))))
+
+
 def array(columns, rows):
     """An array of a square, 5 points a copy, side by side."""
     corners = points((0, 0), (columns * 10, 0), (0, rows * 10))
@@ -79,6 +96,8 @@ def other_layers(size):
 LAYOUTS = {
     "overlapping": lambda: overlapping(100_000),
     "one_row": lambda: tall(15_000),
+    "active": lambda: active(100_000),
+    "comb": lambda: comb(16_384),
     "array": lambda: array(1023, 205),
     "other_layers": lambda: other_layers(67_108_864),
 }

@@ -1,3 +1,4 @@
 mod MergeLaws
+pub mod RegionLaws
 mod SignLaws
 mod WindowLaws

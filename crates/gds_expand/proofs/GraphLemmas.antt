@@ -7,17 +7,12 @@ use Rattle.gds_model.specs.declared.elements.Structure.{Structure}
 use Rattle.gds_model.specs.declared.shape.Shape.{Shape}
 use Rattle.gds_model.specs.Reach as reach
 use Rattle.gds_model.specs.Reach.{References, IsOnCycle, elements_at, number_of, is_same_name}
+use Rattle.gds_expand.specs.Orders.{IsGraphOf}
 use Rattle.gds_expand.specs.Parts.{parts_in}
 use Rattle.gds_expand.specs.Points.{Plan, targets_of, IsOrderOf}
 use Rattle.gds_expand.proofs.PartLemmas.{reference_of_target, target_of_reference}
 use Rattle.gds_expand.proofs.RowLemmas.{parts_of_rows, references_of_rows}
 use Rattle.structure_graph.specs.Graph.{Graph, references_of, Chain, Reaches, ReachesByReference, IsClosed, IsBottomUp, IsMarked}
-
--- a graph has an edge for each structure that a reference names
-pub record IsGraphOf (library : List Structure) (graph : Graph) : Type 0 where
-  pub sized : length graph ≡ length library
-  pub edge : (s t : ℕ) → References library s t → Contains (references_of graph s) t
-  pub only : (s t : ℕ) → Contains (references_of graph s) t → References library s t
 
 blank : Structure
 blank = record { name = []; elements = [] }

@@ -16,3 +16,5 @@ pub mod BaseLemmas
 pub mod RowMeanings
 pub mod RowRanks
 pub mod SetLemmas
+pub mod StepLemmas
+pub mod StageLemmas

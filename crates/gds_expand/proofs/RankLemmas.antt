@@ -1,11 +1,13 @@
 -- The place of a structure in a bottom-up order is its rank.
-use Rattle.std.proofs.Common.{◌≡◌, ℕ, zero, suc, ◌<◌, ◌==◌, inl, inr, Bool, false, if◌then◌else◌, List, [], ◌∷◌, length, take, slice_index, Contains, ap, sym, ◌∙◌, subst, arith}
+use Rattle.std.proofs.Common.{◌≡◌, ℕ, zero, suc, ◌<◌, ◌≤◌, ◌==◌, inl, inr, Bool, false, if◌then◌else◌, List, [], ◌∷◌, length, take, drop, slice_index, Contains, ap, sym, ◌∙◌, subst, arith}
 use Rattle.std.proofs.lemmas.Bool.{cases_eq, eq-eqb}
 use Rattle.std.proofs.lemmas.Bool.Decides.{eqb_tells}
+use Rattle.std.proofs.lemmas.List.{take-append-drop}
+use Rattle.std.proofs.lemmas.List.Elements.{Contains-append_left}
 use Rattle.gds_model.specs.declared.elements.Structure.{Structure}
 use Rattle.gds_model.proofs.PlacedListLaws.{FallsBy}
-use Rattle.gds_expand.proofs.GraphLemmas.{IsGraphOf, reaches_to}
-use Rattle.structure_graph.specs.Graph.{Graph, Reaches, IsBottomUp, references_of}
+use Rattle.gds_model.specs.Reach.{Chain, IsOnCycle, References}
+use Rattle.gds_expand.specs.Orders.{IsOrder}
 
 -- where the structure stands first
 abbrev pub place_in : List ℕ → ℕ → ℕ
@@ -57,15 +59,52 @@ place_before (x ∷ order) (suc n) s there = elim (cases_eq x s) [
       omega (arith, later, below)
 ]
 
--- a structure that is referenced stands earlier
-pub place_falls : (graph : Graph) (order : List ℕ) (s t : ℕ) → IsBottomUp graph order → Contains order s → Contains (references_of graph s) t →
-    place_in order t < place_in order s
-place_falls graph order s t up there edge =
-    place_before order (place_in order s) t
-    (up (place_in order s) t (place_below order s there) (subst (λ (x : ℕ). Contains (references_of graph x) t) (sym (place_is order s there)) edge))
+-- no place is greater than the order is long
+pub place_most : (order : List ℕ) (s : ℕ) → place_in order s ≤ length order
+place_most [] s = omega arith
+place_most (x ∷ order) s = elim (cases_eq x s) [
+  | inl same ↦ let here = at_first x s order same in omega (arith, here)
+  | inr other ↦
+      let later = at_later x s order other in
+      let below : place_in order s ≤ length order = place_most order s in
+      omega (arith, later, below)
+]
 
-pub falls_by_place : (library : List Structure) (graph : Graph) (top : ℕ) (order : List ℕ) → IsGraphOf library graph → IsBottomUp graph order →
-    ((s : ℕ) → Reaches graph top s → Contains order s) → FallsBy library top (place_in order)
-falls_by_place library graph top order g up listed = record {
-  lower = λ s t reached named. place_falls graph order s t up (listed s (reaches_to library graph g top s reached)) (g.edge s t named);
+-- a structure that is referenced stands earlier
+pub place_falls : (library : List Structure) (order : List ℕ) (s t : ℕ) → IsOrder library order → Contains order s → References library s t →
+    place_in order t < place_in order s
+place_falls library order s t o there named =
+    place_before order (place_in order s) t
+    (o.up (place_in order s) t (place_below order s there) (subst (λ (x : ℕ). References library x t) (sym (place_is order s there)) named))
+
+pub listed_reference : (library : List Structure) (order : List ℕ) (s t : ℕ) → IsOrder library order → Contains order s → References library s t → Contains order t
+listed_reference library order s t o there named =
+    let k : ℕ = place_in order s in
+    let early = o.up k t (place_below order s there) (subst (λ (x : ℕ). References library x t) (sym (place_is order s there)) named) in
+    subst (λ (xs : List ℕ). Contains xs t) (take-append-drop k order) (Contains-append_left (take k order) (drop k order) t early)
+
+-- what a listed structure reaches is listed
+pub listed_chain : (library : List Structure) (order : List ℕ) (n s t : ℕ) → IsOrder library order → Contains order s → Chain library s t n → Contains order t
+listed_chain library order zero s t o there same = subst (Contains order) same there
+listed_chain library order (suc n) s t o there (u, chain, named) = listed_reference library order u t o (listed_chain library order n s u o there chain) named
+
+pub falls_by_place : (library : List Structure) (order : List ℕ) (top : ℕ) → IsOrder library order → Contains order top → FallsBy library top (place_in order)
+falls_by_place library order top o there = record {
+  lower = λ s t reached named. place_falls library order s t o (listed_chain library order reached.0 top s o there reached.1) named;
 }
+
+-- along references the place falls
+pub place_along : (library : List Structure) (order : List ℕ) (n s t : ℕ) → IsOrder library order → Contains order s → Chain library s t n →
+    place_in order t ≤ place_in order s
+place_along library order zero s t o there same = let e = ap (place_in order) same in omega (arith, e)
+place_along library order (suc n) s t o there (u, chain, named) =
+    let above = place_along library order n s u o there chain in
+    let lower = place_falls library order u t o (listed_chain library order n s u o there chain) named in
+    omega (arith, above, lower)
+
+-- so no listed structure reaches itself
+pub not_on_cycle : (library : List Structure) (order : List ℕ) (s : ℕ) → IsOrder library order → Contains order s → IsOnCycle library s → ⊥
+not_on_cycle library order s o there (n, (u, chain, named)) =
+    let above : place_in order u ≤ place_in order s = place_along library order n s u o there chain in
+    let lower : place_in order s < place_in order u = place_falls library order u s o (listed_chain library order n s u o there chain) named in
+    omega arith

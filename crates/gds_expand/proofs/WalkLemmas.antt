@@ -164,6 +164,17 @@ pub record IsWalking (plan : Plan) (rank : ℕ → ℕ) (top : ℕ) (out : List 
   pub placing : ArePlacing plan rank top tasks
   pub near : All (λ x. IsWithin (rank top * 2 ^ 34) x.placement.shift) out
 
+-- a walk of a plan that is ranked somehow
+pub record IsRankedWalk (plan : Plan) (top : ℕ) (out : List PlacedShape) (tasks : List Task) : Type 0 where
+  pub rank : ℕ → ℕ
+  pub ranked : IsRanked plan rank
+  pub deep : rank top < 2 ^ 16
+  pub walking : IsWalking plan rank top out tasks
+
+pub walks_on : (plan : Plan) (top : ℕ) (out : List PlacedShape) (tasks : List Task) (rank : ℕ → ℕ) → IsRanked plan rank → rank top < 2 ^ 16 →
+    IsWalking plan rank top out tasks → IsRankedWalk plan top out tasks
+walks_on plan top out tasks rank ranked deep walking = record { rank = rank; ranked = ranked; deep = deep; walking = walking }
+
 -- ---- the turns
 
 abbrev pub task : ℕ → ℕ → Placement → Task

@@ -7,3 +7,4 @@ pub mod Wrong
 pub mod Copies
 pub mod Bases
 pub mod Rows
+pub mod Orders

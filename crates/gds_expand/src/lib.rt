@@ -1,25 +1,35 @@
 //! The shapes that the chosen layer of a library places, in pixels.
 //!
-//! A reference puts a copy of a structure somewhere, and an array many. What a structure places is given as a plan: by
-//! structure a list of steps, each a shape or a copy of what another structure places. From the plan, without recursion:
+//! A reference puts a copy of a structure somewhere, and an array many. `expand` goes through five stages, each of which may
+//! refuse the layer, and recurses nowhere:
 //!
-//! - `point_counts`: how many points each structure places, by products;
-//! - `placed_shapes`: the shapes in order, each with the placement that its chain of references gives;
-//! - `outlines_of`: these shapes in pixels, or what is wrong with the first wrong one. A path is drawn by `path_rects`.
+//! ```text
+//! top ─ references of what it reaches ─ an order from the bottom up ─ points by products ─ plan ─ walk ─ outlines
+//!  └ NoTop     └ the lowest wrong one        └ the lowest cycle          └ too many                  └ the first wrong shape
+//! ```
 //!
-//! `own_fault` says what is wrong with a reference that names a structure. The definitions stand in gds_model.
+//! - A plan has, by structure, a list of steps, each a shape or a copy of what another structure places. A structure that
+//!   places nothing has no step, and one that only copies another is passed through: so a plan that places few points has
+//!   few steps, and its walk takes few turns.
+//! - A path is drawn by its rectangles, in halves of database units.
+//!
+//! The definitions stand in gds_model.
 #![tactic(auto)]
 
 mod bases;
 mod copies;
+#[cfg(test)]
+mod expand_tests;
 mod parts;
 mod path;
 mod placement;
+mod plans;
 mod points;
 mod reached;
 mod references;
 mod rows;
 mod shapes;
+mod stages;
 #[cfg(test)]
 mod tests;
 mod walk;
@@ -27,9 +37,4 @@ mod wrong;
 
 pub use gds_model::PlaceFault;
 pub use opc_base::{Outline, Placed};
-pub use path::path_rects;
-pub use placement::Placement;
-pub use points::{Part, point_counts};
-pub use references::own_fault;
-pub use shapes::outlines_of;
-pub use walk::{PlacedShape, Step, placed_shapes};
+pub use stages::expand;

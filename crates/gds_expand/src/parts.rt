@@ -1,6 +1,6 @@
 //! What the structures of a library place, as parts.
 
-ghost use Rattle.std.specs.Prelude.{◌≡◌, ◌*◌, ◌++◌, unsigned_abs, if◌then◌else◌, Bool, IfOk, OnOk, length, map, [], ◌∷◌};
+ghost use Rattle.std.specs.Prelude.{◌≡◌, ◌≤◌, ◌*◌, ◌++◌, unsigned_abs, if◌then◌else◌, Bool, IfOk, OnOk, length, map, vec_len, [], ◌∷◌};
 ghost use Rattle.gds_model.specs.PlacedList.{columns_of, is_on, rows_of};
 ghost use Rattle.gds_model.specs.Reach.{number_of};
 ghost use Rattle.gds_expand.specs.Parts.{parts_by, parts_in};
@@ -91,7 +91,8 @@ pub(crate) fn part_plan(
     library: &Library,
     pick: &Pick,
 ) -> Result<Vec<Vec<Part>>, AllocError>
-    ensures { IfOk result (λ plan. map (λ row. row.items) plan.items ≡ map (λ s. parts_in library.now.structures (is_on pick.now.layer pick.now.datatype) s.elements) library.now.structures) }
+    ensures few { IfOk result (λ plan. vec_len plan ≤ 65535) }
+    ensures parts { IfOk result (λ plan. map (λ row. row.items) plan.items ≡ map (λ s. parts_in library.now.structures (is_on pick.now.layer pick.now.datatype) s.elements) library.now.structures) }
 {
     let mut plan = Vec::new(alloc);
     for i in 0..library.count() {

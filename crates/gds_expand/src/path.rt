@@ -179,7 +179,7 @@ fn rects_through(
 }
 
 /// The rectangles of a path whose edges are horizontal or vertical.
-pub fn path_rects(
+pub(crate) fn path_rects(
     alloc: Global,
     form: &PathForm,
     points: &[Position],

@@ -6,7 +6,7 @@ use gds_model::Position;
 
 /// A reflection about the x axis or none, then quarter turns counterclockwise, then a shift.
 #[derive(Clone, Copy, Debug)]
-pub struct Placement {
+pub(crate) struct Placement {
     pub flip: bool,
     pub turns: u8,
     pub shift: Position,

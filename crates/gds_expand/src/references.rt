@@ -75,7 +75,7 @@ fn are_steps(count: &Count, displacement: &Position) -> bool
 }
 
 /// What is wrong with a reference that names a structure.
-pub fn own_fault(reference: &Reference) -> Option<PlaceFault>
+pub(crate) fn own_fault(reference: &Reference) -> Option<PlaceFault>
     ensures { result ≡ own_fault reference.now }
 {
     let offset = reference.offset;

@@ -396,7 +396,7 @@ pub(crate) fn outline_of(
 }
 
 /// The placed shapes in pixels of the chosen grid, or what is wrong with the first wrong one.
-pub fn outlines_of(
+pub(crate) fn outlines_of(
     alloc: Global,
     pick: &Pick,
     shapes: &[PlacedShape],

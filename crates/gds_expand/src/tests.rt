@@ -11,7 +11,7 @@ use opc_base::{Name, Outline, Pick, Rect};
 use std::alloc::{AllocError, Global};
 use std::process::Abort;
 
-fn top(alloc: Global) -> Result<Name, AllocError>
+pub(crate) fn top(alloc: Global) -> Result<Name, AllocError>
     ensures some { IfOk result (λ name. 1 ≤ length name) }
     ensures few { IfOk result (λ name. length name ≤ 255) }
 {

@@ -10,14 +10,14 @@ use std::alloc::{AllocError, Global};
 
 /// What a structure places: a shape, or a copy of what another structure places.
 #[derive(Clone, Copy, Debug)]
-pub enum Step<'a> {
+pub(crate) enum Step<'a> {
     Shape(&'a Shape),
     Copy(usize, Placement),
 }
 
 /// A shape, as a chain of references places it.
 #[derive(Clone, Copy, Debug)]
-pub struct PlacedShape<'a> {
+pub(crate) struct PlacedShape<'a> {
     pub shape: &'a Shape,
     pub placement: Placement,
 }
@@ -31,18 +31,14 @@ struct Task {
 }
 
 /// The shapes that the top places, in order.
-pub fn placed_shapes<'a>(
+pub(crate) fn placed_shapes<'a>(
     alloc: Global,
     plan: &[Vec<Step<'a>>],
     top: usize,
 ) -> Result<Vec<PlacedShape<'a>>, AllocError>
-    ghost rank: { ℕ → ℕ }
-    requires ranked { IsRanked plan.now rank }
+    requires ranked { (rank : ℕ → ℕ) × IsRanked plan.now rank × (rank top < 2 ^ 16) }
     requires top { top < length plan.now }
-    requires depth { rank top < 2 ^ 16 }
-
-    // at every depth that reaches the last chain
-    ensures placed { IfOk result (λ shapes. (depth : ℕ) → rank top < depth → map mapped shapes.items ≡ plan_places plan.now depth top) }
+    ensures placed { IfOk result (λ shapes. map mapped shapes.items ≡ plan_places plan.now (2 ^ 16) top) }
     ensures near { IfOk result (λ shapes. All (λ x. IsWithin (2 ^ 50) x.placement.shift) shapes.items) }
 {
     let mut shapes = Vec::new(alloc);

@@ -3,3 +3,4 @@ mod CornerSums
 mod PowerSums
 mod RectLaws
 mod Vectors
+pub mod WeightLaws

@@ -7,7 +7,7 @@ use lib.Lanes.{Each2, zip2, put_chunk}
 use borrow.Rule.Simd.Lanes.{Asks2, act2}
 use borrow.Table.Row.{s_int}
 use mir.Syntax.{Op2, add, mul, sub, signed}
-use Rattle.lane_intensity.specs.Differences.{AreLanes, four_lanes, times_lane}
+use Rattle.lane_intensity.specs.Differences.{AreLanes, AreSquares, four_lanes, times_lane}
 use Rattle.opc_base.specs.Changes.{RisesBetween}
 
 -- what an operator gives at each two lanes, and what it asks
@@ -210,3 +210,27 @@ module _ (lane : ℕ) (acc block : List ℤ) (times : ℤ)
   pub holds_times_total : Holds (2 ^ 62 + 2 ^ 48 + 2 * 2 ^ 27) (λ k. get_or acc (lane + k) (pos 0) +ℤ times_lane times block (lane + k))
       (both (add signed) (loaded lane acc) (both (mul signed) (replicate 8 (of_z w64 times)) (loaded lane block)))
   holds_times_total = Holds-add _ _ _ _ _ _ (omega arith) (Holds-load (2 ^ 62 + 2 ^ 48) acc lane room small) holds_times
+
+-- ---- the squares of eight lanes
+module _ (lane : ℕ) (acc : List ℤ) (room : lane + 8 ≤ length acc) (lanes : AreLanes (length acc) 34080768 acc) where
+  load_lanes : Holds 34080768 (λ k. get_or acc (lane + k) (pos 0)) (loaded lane acc)
+  load_lanes = Holds-load 34080768 acc lane room (λ k below. lanes.small (lane + k) (omega arith))
+
+  pub asks_squares : asks (mul signed) (loaded lane acc) (loaded lane acc)
+  asks_squares = asks_mul _ _ _ _ _ _ (omega arith) (omega arith) (omega arith) load_lanes load_lanes
+
+  holds_squares : Holds (34080768 * 34080768) (λ k. get_or acc (lane + k) (pos 0) *ℤ get_or acc (lane + k) (pos 0)) (both (mul signed) (loaded lane acc) (loaded lane acc))
+  holds_squares = Holds-mul _ _ _ _ _ _ (omega arith) (omega arith) (omega arith) load_lanes load_lanes
+
+  square_at : (k : ℕ) → k < 8 → get_or (map (to_z w64) (both (mul signed) (loaded lane acc) (loaded lane acc))) k (pos 0)
+      ≡ get_or acc (lane + k) (pos 0) *ℤ get_or acc (lane + k) (pos 0)
+  square_at k below =
+      get_or-map (to_z w64) _ k 0 (pos 0) (omega (arith, holds_squares.count)) ∙ ap (to_z w64) (holds_squares.each k below)
+      ∙ to_z-of_z (fits_by (34080768 * 34080768) _ (holds_squares.small k below) (omega arith))
+
+  pub squares_are : AreSquares lane acc (map (to_z w64) (both (mul signed) (loaded lane acc) (loaded lane acc)))
+  squares_are = record {
+    count = length-map _ (to_z w64) ∙ holds_squares.count;
+    each = square_at;
+    small = λ k below. rw (square_at k below) (holds_squares.small k below);
+  }

@@ -44,3 +44,9 @@ power_at weights lanes j =
 -- the sum of what the first n kernels add
 abbrev pub power_sum : List ℤ → List ℤ → ℕ → ℤ
 power_sum weights lanes n = sum_range (λ j. power_at weights lanes (unsigned_abs j)) (pos 0) n
+
+-- the squares of eight lanes, and how large they are
+pub record AreSquares (lane : ℕ) (lanes squares : List ℤ) : Type 0 where
+  pub count : length squares ≡ 8
+  pub each : (k : ℕ) → k < 8 → slice_index_or squares k (pos 0) ≡ slice_index_or lanes (lane + k) (pos 0) *ℤ slice_index_or lanes (lane + k) (pos 0)
+  pub small : (k : ℕ) → k < 8 → unsigned_abs (slice_index_or squares k (pos 0)) ≤ 34080768 * 34080768

@@ -1,12 +1,13 @@
 //! Intensities from lanes.
 
-ghost use Rattle.std.specs.Prelude.{◌≡◌, ℕ, ℤ, ◌+◌, ◌*◌, ◌<◌, ◌≤◌, ◌≤ℤ◌, pos, All, length, slice_index_or, unsigned_abs};
+ghost use Rattle.std.specs.Prelude.{◌≡◌, ℕ, ℤ, ◌+◌, ◌*◌, ◌<◌, ◌≤◌, ◌+ℤ◌, ◌*ℤ◌, length, unsigned_abs};
 ghost use Rattle.opc_base.specs.Lanes.{LanesAre, amplitude_of_lane, weights_of};
 ghost use Rattle.opc_base.specs.Optics.{intensity};
 ghost use Rattle.opc_base.specs.Plane.{PixelSet};
-ghost use Rattle.opc_base.specs.Sums.{sum_each};
 ghost use Rattle.opc_base.specs.declared.kernels.KernelSet.{KernelSet};
-ghost use Rattle.lane_intensity.specs.Differences.{AreLanes, IsLight, power_at, power_sum};
+ghost use Rattle.lane_intensity.specs.Differences.{AreLanes, AreSquares, IsLight, power_sum};
+
+use std::simd::prelude::*;
 
 /// The intensity of a list of lanes: the sum over the kernels of the weight times the power of the kernel's two lanes.
 ///
@@ -20,22 +21,83 @@ pub fn intensity(acc: &[i64], weights: &[i64]) -> i64
     ensures image { (set : KernelSet) (pixels : PixelSet) (x y : ℤ) → weights.now ≡ weights_of set → LanesAre set (amplitude_of_lane set pixels x y) acc.now → result ≡ intensity set pixels x y }
 {
     let mut sum = 0;
-    for kernel in 0..weights.len() {
-        sum += power_of(acc, weights, kernel);
+    let mut kernel = 0;
+    while kernel + 4 <= weights.len() {
+        sum = with_four(sum, acc, weights, kernel);
+        kernel += 4;
+    }
+    while kernel < weights.len() {
+        sum = with_one(sum, acc, weights, kernel);
+        kernel += 1;
     }
     sum
 }
 
-/// What one kernel adds.
+/// The sum with what four more kernels add, whose eight lanes are squared in a vector.
 #[inline]
-fn power_of(acc: &[i64], weights: &[i64], kernel: usize) -> i64
+fn with_four(sum: i64, acc: &[i64], weights: &[i64], kernel: usize) -> i64
     requires lanes { AreLanes (2 * length weights.now) 34080768 acc.now }
-    requires kernel { kernel < length weights.now }
-    requires light { unsigned_abs (slice_index_or weights.now kernel (pos 0)) ≤ 2048 }
-    ensures value { result ≡ power_at weights.now acc.now kernel }
-    ensures small { unsigned_abs result ≤ unsigned_abs (slice_index_or weights.now kernel (pos 0)) * (2 * 34080768 * 34080768) }
+    requires weights { IsLight weights.now }
+    requires kernel { kernel + 4 ≤ length weights.now }
+    requires sum { sum ≡ power_sum weights.now acc.now kernel }
+    ensures { result ≡ power_sum weights.now acc.now (kernel + 4) }
 {
-    let re = acc[2 * kernel];
-    let im = acc[2 * kernel + 1];
-    weights[kernel] * (re * re + im * im)
+    let squares = squares_of(acc, 2 * kernel);
+    let mut sum = sum;
+    for next in 0..4 {
+        sum += weighted(
+            weights[kernel + next],
+            squares[2 * next],
+            squares[2 * next + 1],
+        );
+    }
+    sum
+}
+
+/// The squares of eight lanes.
+#[inline]
+fn squares_of(acc: &[i64], lane: usize) -> [i64; 8]
+    requires lane { lane + 8 ≤ length acc.now }
+    requires lanes { AreLanes (length acc.now) 34080768 acc.now }
+    ensures { AreSquares lane acc.now result }
+{
+    let lanes = i64x8::from_slice(&acc[lane..]);
+    lanes.strict_mul(lanes).to_array()
+}
+
+/// The sum with what one more kernel adds.
+#[inline]
+fn with_one(sum: i64, acc: &[i64], weights: &[i64], kernel: usize) -> i64
+    requires lanes { AreLanes (2 * length weights.now) 34080768 acc.now }
+    requires weights { IsLight weights.now }
+    requires kernel { kernel < length weights.now }
+    requires sum { sum ≡ power_sum weights.now acc.now kernel }
+    ensures { result ≡ power_sum weights.now acc.now (kernel + 1) }
+{
+    sum + weighted(
+        weights[kernel],
+        square(acc[2 * kernel]),
+        square(acc[2 * kernel + 1]),
+    )
+}
+
+/// The square of a lane.
+#[inline]
+fn square(lane: i64) -> i64
+    requires { unsigned_abs lane ≤ 34080768 }
+    ensures value { result ≡ lane *ℤ lane }
+    ensures small { unsigned_abs result ≤ 34080768 * 34080768 }
+{
+    lane * lane
+}
+
+/// A weight times the power of two lanes, of which these are the squares.
+#[inline]
+fn weighted(weight: i64, re_square: i64, im_square: i64) -> i64
+    requires weight { unsigned_abs weight ≤ 2048 }
+    requires re { unsigned_abs re_square ≤ 34080768 * 34080768 }
+    requires im { unsigned_abs im_square ≤ 34080768 * 34080768 }
+    ensures { result ≡ weight *ℤ (re_square +ℤ im_square) }
+{
+    weight * (re_square + im_square)
 }

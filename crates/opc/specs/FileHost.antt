@@ -11,3 +11,7 @@ outside_of host = record {
   store_faults = host.store_faults;
   say_faults = host.say_faults;
 }
+
+-- no call of the host has failed yet
+abbrev pub untouched : Outside
+untouched = record { files = None; said = None; load_faults = 0; store_faults = 0; say_faults = 0 }

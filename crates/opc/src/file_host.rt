@@ -17,8 +17,12 @@ pub struct FileHost<'a, R> {
 }
 
 impl<'a, R: Files + Print> FileHost<'a, R> {
+    ghost use Rattle.opc.specs.FileHost.{outside_of, untouched};
+
     /// A host over this runtime's files and output, with counts of 0.
-    pub fn new(rt: &'a R) -> Self {
+    pub fn new(rt: &'a R) -> Self
+        ensures counts { outside_of result ≡ untouched }
+    {
         FileHost {
             rt,
             load_faults: 0,

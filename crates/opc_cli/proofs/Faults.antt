@@ -19,8 +19,9 @@ pub record IsJudged (fault : EngineFault) : Type 0 where
   pub memory : status_of_fault fault ≡ 10 → fault_line fault ≡ memory_line
 
 pub judged : (fault : EngineFault) → IsJudged fault
-judged (engine.NotYet file) = let s = file_status file in record { at_least = s.0; at_most = omega (arith, s.1); memory = λ ten. absurd (omega (arith, s.1)) }
 judged (engine.TooLong file) = let s = file_status file in record { at_least = s.0; at_most = omega (arith, s.1); memory = λ ten. absurd (omega (arith, s.1)) }
 judged (engine.Kernels fault) = record { at_least = omega arith; at_most = omega arith; memory = λ ten. absurd (omega arith) }
 judged (engine.Layout fault) = record { at_least = omega arith; at_most = omega arith; memory = λ ten. absurd (omega arith) }
+judged (engine.Place fault) = record { at_least = omega arith; at_most = omega arith; memory = λ ten. absurd (omega arith) }
+judged engine.TooManyCorners = record { at_least = omega arith; at_most = omega arith; memory = λ ten. absurd (omega arith) }
 judged engine.NoMemory = record { at_least = omega arith; at_most = omega arith; memory = λ _. refl }

@@ -5,6 +5,8 @@ use Rattle.kernel_file.specs.declared.fault.KernelFault.{KernelFault}
 use Rattle.kernel_file.specs.declared.fault.KernelFault.TheVariants as kernel
 use Rattle.gds_model.specs.declared.layout_fault.LayoutFault.{LayoutFault}
 use Rattle.gds_model.specs.declared.layout_fault.LayoutFault.TheVariants as layout
+use Rattle.gds_model.specs.declared.place_fault.PlaceFault.{PlaceFault}
+use Rattle.gds_model.specs.declared.place_fault.PlaceFault.TheVariants as place
 use Rattle.opc_engine.specs.declared.ask.Which.{Which}
 use Rattle.opc_engine.specs.declared.ask.Which.TheVariants as which
 use Rattle.opc_engine.specs.declared.fault.EngineFault.{EngineFault}
@@ -18,10 +20,11 @@ status_of_which which.Rules = 7
 status_of_which which.Moves = 8
 
 abbrev pub status_of_fault : EngineFault → ℕ
-status_of_fault (engine.NotYet file) = status_of_which file
 status_of_fault (engine.TooLong file) = status_of_which file
 status_of_fault (engine.Kernels fault) = 6
 status_of_fault (engine.Layout fault) = 5
+status_of_fault (engine.Place fault) = 5
+status_of_fault engine.TooManyCorners = 5
 status_of_fault engine.NoMemory = 10
 
 -- said of want of memory
@@ -58,9 +61,26 @@ layout_text (layout.Duplicate offset) = codes "duplicate name at " ++ decimal of
 layout_text (layout.Trailing offset) = codes "trailing byte at " ++ decimal offset
 layout_text layout.NoMemory = codes "out of memory"
 
+-- what a line says of what a layout places; of its want of memory the engine's own speaks
+abbrev pub place_text : PlaceFault → List ℕ
+place_text place.NoTop = codes "no top structure"
+place_text (place.Missing offset) = codes "missing structure at " ++ decimal offset
+place_text (place.BadMag offset) = codes "bad magnification at " ++ decimal offset
+place_text (place.BadAngle offset) = codes "bad angle at " ++ decimal offset
+place_text (place.BadArray offset) = codes "bad array at " ++ decimal offset
+place_text (place.Cycle number) = codes "cycle through structure " ++ decimal number
+place_text (place.TooManyPoints count) = codes "too many points " ++ decimal count
+place_text (place.NotClosed offset) = codes "not closed at " ++ decimal offset
+place_text (place.NotRectilinear offset) = codes "not rectilinear at " ++ decimal offset
+place_text (place.RoundPath offset) = codes "path ends at " ++ decimal offset
+place_text (place.OffGrid offset) = codes "off grid at " ++ decimal offset
+place_text (place.OutOfRange offset) = codes "out of range at " ++ decimal offset
+place_text place.NoMemory = codes "out of memory"
+
 abbrev pub fault_line : EngineFault → List ℕ
-fault_line (engine.NotYet file) = codes "opc: " ++ which_text file ++ codes ": not yet" ++ 10 ∷ []
 fault_line (engine.TooLong file) = codes "opc: " ++ which_text file ++ codes ": too long" ++ 10 ∷ []
 fault_line (engine.Kernels fault) = codes "opc: kernels: " ++ kernels_text fault ++ 10 ∷ []
 fault_line (engine.Layout fault) = codes "opc: layout: " ++ layout_text fault ++ 10 ∷ []
+fault_line (engine.Place fault) = codes "opc: layout: " ++ place_text fault ++ 10 ∷ []
+fault_line engine.TooManyCorners = codes "opc: layout: too many corners" ++ 10 ∷ []
 fault_line engine.NoMemory = memory_line

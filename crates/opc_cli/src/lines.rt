@@ -1,11 +1,11 @@
 //! The lines that are said.
 ghost use Rattle.std.specs.Prelude.{◌≡◌, IfOk, string_bytes};
 ghost use Rattle.opc_cli.specs.Plan.{intensity_line};
-ghost use Rattle.opc_cli.specs.Fault.{which_text, kernels_text, layout_text, fault_line};
+ghost use Rattle.opc_cli.specs.Fault.{which_text, kernels_text, layout_text, place_text, fault_line};
 ghost use Rattle.opc_cli.specs.Stop.{line_of};
 
 use crate::stop::Stop;
-use gds_model::LayoutFault;
+use gds_model::{LayoutFault, PlaceFault};
 use kernel_file::KernelFault;
 use opc_base::{Bytes, NoMemory};
 use opc_engine::{EngineFault, Which};
@@ -80,15 +80,35 @@ fn layout_text(alloc: Global, fault: &LayoutFault) -> Result<String, NoMemory>
     Ok(text)
 }
 
+/// What a line says of what a layout places.
+fn place_text(alloc: Global, fault: &PlaceFault) -> Result<String, NoMemory>
+    ensures { IfOk result (λ text. string_bytes text ≡ place_text fault.now) }
+{
+    let text = match fault {
+        PlaceFault::NoTop => String::from_str(alloc, "no top structure")?,
+        PlaceFault::Missing { offset } => format!(in alloc; "missing structure at {offset}")?,
+        PlaceFault::BadMag { offset } => format!(in alloc; "bad magnification at {offset}")?,
+        PlaceFault::BadAngle { offset } => format!(in alloc; "bad angle at {offset}")?,
+        PlaceFault::BadArray { offset } => format!(in alloc; "bad array at {offset}")?,
+        PlaceFault::Cycle { structure } => {
+            format!(in alloc; "cycle through structure {structure}")?
+        }
+        PlaceFault::TooManyPoints { count } => format!(in alloc; "too many points {count}")?,
+        PlaceFault::NotClosed { offset } => format!(in alloc; "not closed at {offset}")?,
+        PlaceFault::NotRectilinear { offset } => format!(in alloc; "not rectilinear at {offset}")?,
+        PlaceFault::RoundPath { offset } => format!(in alloc; "path ends at {offset}")?,
+        PlaceFault::OffGrid { offset } => format!(in alloc; "off grid at {offset}")?,
+        PlaceFault::OutOfRange { offset } => format!(in alloc; "out of range at {offset}")?,
+        PlaceFault::NoMemory => String::from_str(alloc, "out of memory")?,
+    };
+    Ok(text)
+}
+
 /// The line of a fault of the engine.
 fn fault_line(alloc: Global, fault: &EngineFault) -> Result<String, NoMemory>
     ensures { IfOk result (λ line. string_bytes line ≡ fault_line fault.now) }
 {
     let line = match fault {
-        EngineFault::NotYet { which } => {
-            let file = which_text(*which);
-            format!(in alloc; "opc: {file}: not yet\n")?
-        }
         EngineFault::TooLong { which } => {
             let file = which_text(*which);
             format!(in alloc; "opc: {file}: too long\n")?
@@ -101,6 +121,11 @@ fn fault_line(alloc: Global, fault: &EngineFault) -> Result<String, NoMemory>
             let text = layout_text(alloc, fault)?;
             format!(in alloc; "opc: layout: {text}\n")?
         }
+        EngineFault::Place(fault) => {
+            let text = place_text(alloc, fault)?;
+            format!(in alloc; "opc: layout: {text}\n")?
+        }
+        EngineFault::TooManyCorners => String::from_str(alloc, "opc: layout: too many corners\n")?,
         EngineFault::NoMemory => String::from_str(alloc, OUT_OF_MEMORY)?,
     };
     Ok(line)

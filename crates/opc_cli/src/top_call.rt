@@ -50,9 +50,9 @@ fn status_of_fault(fault: &EngineFault) -> u8
     ensures { result ≡ status_of_fault fault.now }
 {
     match fault {
-        EngineFault::NotYet { which } | EngineFault::TooLong { which } => status_of_which(*which),
+        EngineFault::TooLong { which } => status_of_which(*which),
         EngineFault::Kernels(_) => BAD_KERNELS,
-        EngineFault::Layout(_) => BAD_LAYOUT,
+        EngineFault::Layout(_) | EngineFault::Place(_) | EngineFault::TooManyCorners => BAD_LAYOUT,
         EngineFault::NoMemory => NO_MEMORY,
     }
 }
@@ -83,8 +83,10 @@ pub fn say_no_memory<H: Host>(alloc: Global, host: &mut H) -> u8
 fn say_stop<H: Host>(alloc: Global, host: &mut H, stop: &Stop<'_>) -> u8
     ensures { StopSaid stop.now (H.outside host.old) result (H.outside host.new) }
 {
-    if let Stop::Said = stop {
-        return CANNOT_WRITE;
+    match stop {
+        Stop::Said => return CANNOT_WRITE,
+        Stop::NoMemory => return say_no_memory(alloc, host),
+        _ => {}
     }
     let Ok(line) = line_of(alloc, stop) else {
         return say_no_memory(alloc, host);

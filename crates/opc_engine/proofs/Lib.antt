@@ -1,2 +1,4 @@
-pub mod Elements
+pub mod Stages
+pub mod PlaceLaws
+pub mod Offsets
 pub mod ProbeLaws

@@ -1,4 +1,4 @@
 pub mod AskRanges
-pub mod RectangleLayout
 pub mod Wrapped
+pub mod LayoutTarget
 pub mod Probe

@@ -3,8 +3,12 @@ use Rattle.kernel_file.specs.declared.fault.KernelFault.{KernelFault}
 use Rattle.kernel_file.specs.declared.fault.KernelFault.TheVariants as kernel
 use Rattle.gds_model.specs.declared.layout_fault.LayoutFault.{LayoutFault}
 use Rattle.gds_model.specs.declared.layout_fault.LayoutFault.TheVariants as layout
+use Rattle.gds_model.specs.declared.place_fault.PlaceFault.{PlaceFault}
+use Rattle.gds_model.specs.declared.place_fault.PlaceFault.TheVariants as place
+use Rattle.rect_union.specs.declared.target.UnionFault.{UnionFault}
+use Rattle.rect_union.specs.declared.target.UnionFault.TheVariants as union
 use Rattle.opc_engine.specs.declared.fault.EngineFault.{EngineFault}
-use Rattle.opc_engine.specs.declared.fault.EngineFault.TheVariants.{Kernels, Layout, NoMemory}
+use Rattle.opc_engine.specs.declared.fault.EngineFault.TheVariants.{Kernels, Layout, Place, TooManyCorners, NoMemory}
 
 abbrev pub wrapped_kernels : KernelFault → EngineFault
 wrapped_kernels kernel.NoMemory = NoMemory
@@ -26,3 +30,22 @@ wrapped_layout (layout.TooManyStructures offset) = Layout (layout.TooManyStructu
 wrapped_layout (layout.BadBody offset) = Layout (layout.BadBody offset)
 wrapped_layout (layout.Duplicate offset) = Layout (layout.Duplicate offset)
 wrapped_layout (layout.Trailing offset) = Layout (layout.Trailing offset)
+
+abbrev pub wrapped_place : PlaceFault → EngineFault
+wrapped_place place.NoMemory = NoMemory
+wrapped_place place.NoTop = Place place.NoTop
+wrapped_place (place.Missing offset) = Place (place.Missing offset)
+wrapped_place (place.BadMag offset) = Place (place.BadMag offset)
+wrapped_place (place.BadAngle offset) = Place (place.BadAngle offset)
+wrapped_place (place.BadArray offset) = Place (place.BadArray offset)
+wrapped_place (place.Cycle number) = Place (place.Cycle number)
+wrapped_place (place.TooManyPoints count) = Place (place.TooManyPoints count)
+wrapped_place (place.NotClosed offset) = Place (place.NotClosed offset)
+wrapped_place (place.NotRectilinear offset) = Place (place.NotRectilinear offset)
+wrapped_place (place.RoundPath offset) = Place (place.RoundPath offset)
+wrapped_place (place.OffGrid offset) = Place (place.OffGrid offset)
+wrapped_place (place.OutOfRange offset) = Place (place.OutOfRange offset)
+
+abbrev pub wrapped_union : UnionFault → EngineFault
+wrapped_union union.TooManyCorners = TooManyCorners
+wrapped_union union.NoMemory = NoMemory

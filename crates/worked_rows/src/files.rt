@@ -4,7 +4,7 @@ use opc_base::NoMemory;
 use std::alloc::Global;
 
 /// The records before the first element: a library `LIB` whose one structure is `TOP`.
-const OPENING: [u8; 98] = [
+pub const OPENING: [u8; 98] = [
     // HEADER
     0x00, 0x06, 0x00, 0x02, 0x02, 0x58,
     // BGNLIB

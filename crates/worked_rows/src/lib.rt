@@ -1,10 +1,14 @@
 //! Worked examples of the whole program, as tests: `opc_run` over a host in memory.
 //!
-//! `files` makes layouts and kernel files, `hosts` what a host holds of them, and `runs` runs a line of words over them
+//! `files` makes layouts of rectangles and kernel files, `drawing` layouts of any shapes and references, `hosts` what a host holds of them, and `runs` runs a line of words over them
 //! and compares the status and what was said. Each other module has the rows of one subject, with numbers that were
 //! found by hand.
 #![tactic(auto)]
 
+#[cfg(test)]
+mod drawing;
+#[cfg(test)]
+mod fault_rows;
 pub mod files;
 pub mod hosts;
 #[cfg(test)]
@@ -14,8 +18,12 @@ mod layout_rows;
 #[cfg(test)]
 mod order_rows;
 #[cfg(test)]
+mod placement_rows;
+#[cfg(test)]
 mod probe_rows;
 #[cfg(test)]
 mod runs;
+#[cfg(test)]
+mod shape_rows;
 #[cfg(test)]
 mod word_rows;

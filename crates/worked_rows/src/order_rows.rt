@@ -35,7 +35,7 @@ fn files_that_are_refused(rt: HostRuntime) -> Result<(), NoMemory> {
         alloc,
         "probe layout kernels NONE 1 0 5 5",
         (&layout, &kernels),
-        (5, "opc: layout: not yet\n"),
+        (5, "opc: layout: no top structure\n"),
     )?;
     check_calm(
         &rt,

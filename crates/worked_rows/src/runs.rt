@@ -52,3 +52,32 @@ pub fn check_calm<R: Threads + Abort + Sync>(
 ) -> Result<(), NoMemory> {
     check(rt, alloc, line, files, none(alloc), wanted)
 }
+
+/// A kernel file of one kernel of reach 0 and weight 1, whose one entry is 1.
+const POINT: &[u8] = b"OPK1\x00\x01\x00\x00\x00\x01\x00\x01\x00\x00";
+
+/// `probe` under the kernel of one entry says this at each pixel: 1 where it is covered, and else 0.
+pub fn check_cover<R: Threads + Abort + Sync>(
+    rt: &R,
+    alloc: Global,
+    layout: &[u8],
+    rows: &[(i32, i32, u32)],
+) -> Result<(), NoMemory> {
+    for (x, y, intensity) in rows {
+        let line = format!(in alloc; "probe layout kernels TOP 1 0 {x} {y}")?;
+        let said = format!(in alloc; "intensity {intensity}\n")?;
+        check_calm(rt, alloc, &line, (layout, POINT), (0, &said))?;
+    }
+    Ok(())
+}
+
+/// `probe` refuses the layout with this line.
+pub fn check_refused<R: Threads + Abort + Sync>(
+    rt: &R,
+    alloc: Global,
+    layout: &[u8],
+    line: &str,
+) -> Result<(), NoMemory> {
+    let words = "probe layout kernels TOP 1 0 5 5";
+    check_calm(rt, alloc, words, (layout, POINT), (5, line))
+}

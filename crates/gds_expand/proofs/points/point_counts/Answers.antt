@@ -41,7 +41,7 @@ loop-structure-preserved c =
       right = AreCounted-next c.args.plan.now c.loop-structure.counts.items c.args.order.now i v c.points_of-points.result c.requires.order there refl in_range made c.loop-structure.invariant.right;
     }
 
-pub returns : goal.returns
-returns c = λ s depth there deep.
+pub returns-clause-counted : goal.returns-clause-counted
+returns-clause-counted c = λ s depth there deep.
     let whole : take c.loop-structure.structure-index c.args.order.now ≡ c.args.order.now = take_all _ _ (omega arith) in
     c.loop-structure.invariant.right s depth (subst (λ (xs : List ℕ). Contains xs s) (sym whole) there) (omega arith)

@@ -1,0 +1,50 @@
+#!/usr/bin/env python3
+"""Times additions of rectangles to lanes beside the same loop in C.
+
+usage: bench/add_rect.py [COUNT]
+
+Run `rt run` in crates/bench_sums first, which leaves the built program as crates/bench_sums/out/bench_sums. The loop in C,
+bench/add_rect.c, is compiled with $CC or cc for the processor that the kit builds for. Both programs print one number,
+which has to be the same. Run by hand; the gate never runs it.
+"""
+import os
+import resource
+import subprocess
+import sys
+import tempfile
+import time
+
+HERE = os.path.dirname(os.path.abspath(__file__))
+PROVED = os.path.join(HERE, "..", "crates", "bench_sums", "out", "bench_sums")
+RUNS = 5
+
+
+def run(program, count):
+    """The least wall time and processor time of a few runs, and what the program printed."""
+    walls, users = [], []
+    for _ in range(RUNS):
+        user, start = resource.getrusage(resource.RUSAGE_CHILDREN).ru_utime, time.perf_counter()
+        done = subprocess.run([program, str(count)], check=True, capture_output=True, text=True)
+        walls.append(time.perf_counter() - start)
+        users.append(resource.getrusage(resource.RUSAGE_CHILDREN).ru_utime - user)
+    return min(walls), min(users), done.stdout.strip()
+
+
+def main():
+    count = int(sys.argv[1]) if len(sys.argv) > 1 else 20_000_000
+    with tempfile.TemporaryDirectory() as folder:
+        written = os.path.join(folder, "add_rect")
+        compiler = os.environ.get("CC", "cc")
+        subprocess.run([compiler, "-O3", "-march=x86-64-v2", "-o", written, os.path.join(HERE, "add_rect.c")], check=True)
+        each = []
+        for name, program in (("proved", PROVED), ("C", written)):
+            tables, before, _ = run(program, 0)
+            _, after, said = run(program, count)
+            each.append((after - before, said))
+            print(f"{name}: start and tables {tables * 1e3:.1f} ms, {count} rectangles {(after - before) * 1e3:.0f} ms, "
+                  f"{(after - before) / count * 1e9:.1f} ns each, number {said}")
+    (proved, said), (by_hand, wanted) = each
+    print(f"ratio {proved / by_hand:.2f}, the numbers are {'the same' if said == wanted else 'DIFFERENT'}")
+
+
+main()

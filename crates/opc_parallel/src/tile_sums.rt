@@ -1,0 +1,134 @@
+//! What the owner of some tiles adds to them.
+
+ghost use Rattle.std.specs.Prelude.{◌≡◌, ℕ, ◌+◌, ◌*◌, ◌^◌, ◌<◌, ◌≤◌, false, All, length};
+ghost use Rattle.opc_base.specs.Changes.{RisesBy};
+ghost use Rattle.lane_intensity.specs.Differences.{AreLanes};
+ghost use Rattle.tiles.specs.Tiles.{tile_count};
+ghost use Rattle.tiles.specs.Meets.{meet_tile};
+ghost use Rattle.opc_parallel.specs.Stored.{CanTake, change_at, list_change, start_at};
+ghost use Rattle.opc_parallel.specs.Conditions.{IsReady, IsSweepable, setting_of};
+
+use crate::fragment_sums::{add_to_fragment, stride};
+use crate::work::Work;
+use opc_base::{Rect, Steps, Swept};
+use std::sync::ledger::{Blank, Ledger};
+use tiles::TileIndex;
+
+/// Adds all rectangles to the tiles from `first` up to but not including `last`, at a counter of its own.
+pub fn apply_tiles<L: Ledger>(
+    work: &Work,
+    swept: &[Swept],
+    first: u32,
+    last: u32,
+    sums: &mut [i64],
+    blank: Blank,
+)
+    requires ready { IsReady (setting_of work.now) }
+    requires swept { All IsSweepable swept.now }
+    requires order { first ≤ last }
+    requires tiles { last ≤ tile_count work.now.index.now }
+    requires size { start_at (setting_of work.now) first + length sums.old ≡ start_at (setting_of work.now) last }
+    requires fits { CanTake (setting_of work.now) swept.now (start_at (setting_of work.now) first) sums.old }
+    requires name { blank.name ≡ L.name }
+    requires parts { blank.parts ≡ L.parts }
+    requires some { 0 < blank.parts }
+    ensures { RisesBy (list_change (setting_of work.now) swept.now) (start_at (setting_of work.now) first) sums.old sums.new }
+{
+    let mut steps: Steps<L> = Steps::new(blank);
+    for one in swept {
+        add_to_tiles(work, *one, first, last, sums, &mut steps);
+    }
+}
+
+/// Adds a rectangle to those of these tiles that it reaches.
+fn add_to_tiles<L: Ledger>(
+    work: &Work,
+    swept: Swept,
+    first: u32,
+    last: u32,
+    sums: &mut [i64],
+    steps: &mut Steps<L>,
+)
+    requires ready { IsReady (setting_of work.now) }
+    requires swept { IsSweepable swept }
+    requires order { first ≤ last }
+    requires tiles { last ≤ tile_count work.now.index.now }
+    requires size { start_at (setting_of work.now) first + length sums.old ≡ start_at (setting_of work.now) last }
+    requires small { AreLanes (length sums.old) (2 ^ 62) sums.old }
+    ensures { RisesBy (change_at (setting_of work.now) swept) (start_at (setting_of work.now) first) sums.old sums.new }
+{
+    let base = start_of_tile(work, first);
+    let (low, high) = tiles_near(work.index, &swept.rect, first, last);
+    for tile in low..high {
+        let start = start_of_tile(work, tile) - base;
+        let end = start_of_tile(work, tile + 1) - base;
+        let own = &mut sums[start..end];
+        add_if_met(work, swept, tile, own, steps);
+    }
+}
+
+/// From where up to where those of these tiles lie that a rectangle may reach.
+fn tiles_near(index: &TileIndex, rect: &Rect, first: u32, last: u32) -> (u32, u32)
+    requires { first ≤ last }
+    ensures low { first ≤ result.0 }
+    ensures order { result.0 ≤ result.1 }
+    ensures high { result.1 ≤ last }
+    ensures before { (k : ℕ) → first ≤ k → k < result.0 → k < tile_count index.now → meet_tile index.now rect.now k ≡ false }
+    ensures after { (k : ℕ) → result.1 ≤ k → k < last → k < tile_count index.now → meet_tile index.now rect.now k ≡ false }
+{
+    let (low, high) = index.band(rect);
+    let low = low.max(first).min(last);
+    (low, high.max(low).min(last))
+}
+
+/// The first of the numbers that are stored for a tile, or the number of all of them.
+pub fn start_of_tile(work: &Work, tile: u32) -> usize
+    requires tile { tile ≤ tile_count work.now.index.now }
+    requires samples { work.now.samples ≤ 16 }
+    ensures { result ≡ start_at (setting_of work.now) tile }
+{
+    stride(work) * work.index.first_place(tile) as usize
+}
+
+/// Adds a rectangle to a tile if it reaches it.
+fn add_if_met<L: Ledger>(
+    work: &Work,
+    swept: Swept,
+    tile: u32,
+    sums: &mut [i64],
+    steps: &mut Steps<L>,
+)
+    requires ready { IsReady (setting_of work.now) }
+    requires swept { IsSweepable swept }
+    requires tile { tile < tile_count work.now.index.now }
+    requires size { start_at (setting_of work.now) tile + length sums.old ≡ start_at (setting_of work.now) (tile + 1) }
+    requires small { AreLanes (length sums.old) (2 ^ 62) sums.old }
+    ensures { RisesBy (change_at (setting_of work.now) swept) (start_at (setting_of work.now) tile) sums.old sums.new }
+{
+    if work.index.meets(tile, &swept.rect) {
+        add_to_tile(work, swept, tile, sums, steps);
+    }
+}
+
+/// Adds a rectangle to all fragments of a tile.
+fn add_to_tile<L: Ledger>(
+    work: &Work,
+    swept: Swept,
+    tile: u32,
+    sums: &mut [i64],
+    steps: &mut Steps<L>,
+)
+    requires ready { IsReady (setting_of work.now) }
+    requires swept { IsSweepable swept }
+    requires tile { tile < tile_count work.now.index.now }
+    requires size { start_at (setting_of work.now) tile + length sums.old ≡ start_at (setting_of work.now) (tile + 1) }
+    requires small { AreLanes (length sums.old) (2 ^ 62) sums.old }
+    ensures { RisesBy (change_at (setting_of work.now) swept) (start_at (setting_of work.now) tile) sums.old sums.new }
+{
+    let stride = stride(work);
+    for (place, number) in work.index.fragments(tile).iter().enumerate() {
+        let start = place * stride;
+        let own = &mut sums[start..start + stride];
+        add_to_fragment(work, swept, *number, own, steps);
+    }
+}

@@ -1,0 +1,10 @@
+pub mod ListedLaws
+pub mod MeetLaws
+pub mod TouchedLaws
+pub mod GroupLaws
+pub mod KeyLaws
+pub mod PlaceLaws
+pub mod DivLaws
+pub mod BuiltLaws
+pub mod RowLaws
+pub mod TilingLaws
