@@ -9,7 +9,7 @@ use std::alloc::{AllocError, AllocFailed};
 pub enum RowFault {
     /// These points are no polygon, or these sides no rectangle.
     NoShape,
-    /// The file is no layout of one structure of this name.
+    /// The file is no layout with a structure of this name that can be placed.
     NoLayout,
     /// The target breaks a rule of masks.
     BreaksRules,

@@ -1,7 +1,7 @@
 //! Mask files, byte by byte and read back.
 
 use crate::shapes::{rect, region_of_rects};
-use crate::written::{out_pick, read_back, write};
+use crate::written::{out_pick, pick, read_back, write};
 use opc_base::Rect;
 use std::test::Fail;
 
@@ -27,7 +27,7 @@ fn a_cross_and_a_frame(rt: HostRuntime) -> Result<(), Fail> {
     let region = region_of_rects(alloc, &cross())?;
     let file = write(alloc, &region, &out_pick(alloc, &MASK)?, 1)?;
     assert_eq!(rt; file.as_slice().len(), 106 + 7 * 64);
-    let back = read_back(alloc, file.as_slice(), &MASK, 1)?;
+    let back = read_back(alloc, file.as_slice(), &pick(alloc, &MASK, 1)?)?;
     assert_eq!(rt; back.rects(), cross().as_slice());
     Ok(())
 }
@@ -55,7 +55,7 @@ fn nothing(rt: HostRuntime) -> Result<(), Fail> {
     let alloc = rt.alloc();
     let region = region_of_rects(alloc, &[])?;
     let file = write(alloc, &region, &out_pick(alloc, &MASK)?, 1)?;
-    let back = read_back(alloc, file.as_slice(), &MASK, 1)?;
+    let back = read_back(alloc, file.as_slice(), &pick(alloc, &MASK, 1)?)?;
     assert_eq!(rt; back.rects().len(), 0);
     Ok(())
 }
@@ -67,7 +67,7 @@ fn far_coordinates(rt: HostRuntime) -> Result<(), Fail> {
     let far = [rect(-1048000, -1048000, 1048000, -1047999)];
     let region = region_of_rects(alloc, &far)?;
     let file = write(alloc, &region, &out_pick(alloc, &MASK[..3])?, 1000)?;
-    let back = read_back(alloc, file.as_slice(), &MASK[..3], 1000)?;
+    let back = read_back(alloc, file.as_slice(), &pick(alloc, &MASK[..3], 1000)?)?;
     assert_eq!(rt; back.rects(), far.as_slice());
     Ok(())
 }

@@ -1,14 +1,15 @@
 //! Mask files of regions, and the regions that are read back from them.
-ghost use Rattle.std.specs.Prelude.{◌≡◌, ◌≤◌, ◌<ℤ◌, pos, length, All, IsTrue, IfOk};
+ghost use Rattle.std.specs.Prelude.{◌≡◌, ◌≤◌, pos, length, All, IsTrue, IfOk};
 ghost use Rattle.opc_base.specs.Plane.{IsRectWithin};
 ghost use Rattle.opc_base.specs.Ranges.{IsBetween, is_name_byte};
 
 use crate::fault::RowFault;
-use crate::shapes::Shapes;
-use gds_library::{Element, Shape, read_library};
-use gds_records::{Head, Point};
+use gds_expand::expand;
+use gds_library::read_library;
+use gds_records::Head;
 use gds_writer::write_mask;
-use opc_base::{Bytes, Name, OutPick, Region};
+use opc_base::{Bytes, Name, OutPick, Pick, Region};
+use rect_union::union;
 use std::alloc::Global;
 
 /// The head of a library `LIB`.
@@ -53,54 +54,27 @@ pub fn write(alloc: Global, region: &Region, out: &OutPick, grid: i32) -> Result
     Ok(write_mask(alloc, &head(alloc)?, region, out, grid)?)
 }
 
-/// The pixels of the one structure of a file, where this is its name.
-pub fn read_back(alloc: Global, file: &[u8], name: &[u8], grid: i32) -> Result<Region, RowFault>
-    requires { pos 0 <ℤ grid }
-    ensures { IfOk result (All (IsRectWithin 1048000)) }
+/// Layer 1 and datatype 0 of the structure of this name, with so many database units a pixel.
+pub fn pick(alloc: Global, name: &[u8], grid: i32) -> Result<Pick, RowFault>
+    requires some { 1 ≤ length name.now }
+    requires few { length name.now ≤ 255 }
+    requires grid { IsBetween (pos 1) (pos 1000) grid }
 {
+    Ok(Pick {
+        top: Name::from_vec(name.to_vec(alloc)?),
+        layer: 1,
+        datatype: 0,
+        grid,
+    })
+}
+
+/// The pixels that a layout's structure covers.
+pub fn read_back(alloc: Global, file: &[u8], pick: &Pick) -> Result<Region, RowFault> {
     let Ok(library) = read_library(alloc, file) else {
         return Err(RowFault::NoLayout);
     };
-    if library.count() != 1 {
+    let Ok(placed) = expand(alloc, &library, pick) else {
         return Err(RowFault::NoLayout);
-    }
-    let structure = library.structure(0);
-    if structure.name.as_slice() != name {
-        return Err(RowFault::NoLayout);
-    }
-    union_of(alloc, structure.elements.as_slice(), grid)
-}
-
-/// The pixels of shapes on layer 1 and datatype 0.
-fn union_of(alloc: Global, elements: &[Element], grid: i32) -> Result<Region, RowFault>
-    requires { pos 0 <ℤ grid }
-    ensures { IfOk result (All (IsRectWithin 1048000)) }
-{
-    let mut shapes = Shapes::new(alloc);
-    for element in elements {
-        match element {
-            Element::Shape(shape) => add_shape(alloc, &mut shapes, shape, grid)?,
-            Element::Reference(_) => return Err(RowFault::NoShape),
-        }
-    }
-    shapes.union(alloc)
-}
-
-fn add_shape(alloc: Global, shapes: &mut Shapes, shape: &Shape, grid: i32) -> Result<(), RowFault>
-    requires { pos 0 <ℤ grid }
-{
-    if shape.layer != 1 || shape.datatype != 0 {
-        return Err(RowFault::NoShape);
-    }
-    let mut points = Vec::new(alloc);
-    for point in shape.points.as_slice() {
-        points.push(pixel_of(point, grid))?;
-    }
-    shapes.add_polygon(alloc, &points)
-}
-
-fn pixel_of(point: &Point, grid: i32) -> (i32, i32)
-    requires { pos 0 <ℤ grid }
-{
-    (point.x / grid, point.y / grid)
+    };
+    Ok(union(alloc, &placed)?)
 }
