@@ -14,7 +14,7 @@ pub fn merged(alloc: Global, first: &[Column], second: &[Column]) -> Result<Vec<
     requires small { weight_of first.now + weight_of second.now < 2 ^ 126 }
     ensures { IfOk result (λ columns. IsMergeOf first.now second.now columns.items) }
 {
-    let mut columns = Vec::new(alloc);
+    let mut columns = Vec::with_capacity(alloc, first.len() + second.len())?;
     let mut i = 0;
     let mut j = 0;
     while i < first.len() || j < second.len() {

@@ -14,7 +14,7 @@ use std::slice;
 const FEW_IN_ROW: usize = 64;
 
 /// A strip has about so many vertical sides, or more where there would be too many strips.
-const SIDES_IN_STRIP: usize = 64;
+const SIDES_IN_STRIP: usize = 32;
 
 const MOST_STRIPS: usize = 1024;
 

@@ -32,7 +32,7 @@ pub fn add_slab(
     ensures stacked { IfOk result (λ grown. AreStacked rects.new.items grown.items top) }
     ensures pixels { IfOk result (λ _. (x y : ℤ) → cover rects.new.items x y ≡ (cover rects.old.items x y || slab_cover bottom top runs.now x y)) }
 {
-    let mut grown = Vec::new(alloc);
+    let mut grown = Vec::with_capacity(alloc, runs.len())?;
     let mut next = 0;
     for run in runs {
         next = first_from(growing, next, run.first);

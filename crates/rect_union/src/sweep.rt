@@ -48,7 +48,7 @@ pub fn region_of_quadrants(
     for quadrant in quadrants {
         if quadrant.y != bottom {
             state.raise(alloc, &row, bottom, quadrant.y)?;
-            row = Vec::new(alloc);
+            row.clear();
             bottom = quadrant.y;
         }
         row.push(quadrant.column)?;

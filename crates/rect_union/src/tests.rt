@@ -5,6 +5,8 @@ ghost use Rattle.opc_base.specs.Cover.{IsClosed, IsPlaced, IsPolygon, IsRectilin
 ghost use Rattle.opc_base.specs.Plane.{IsPixWithin};
 
 use super::*;
+use crate::spread::rects_of;
+use crate::strips::striped_rects;
 use opc_base::{NoMemory, Outline, Pix, Pixes, Placed, Rect};
 use std::alloc::Global;
 use std::test::Fail;
@@ -196,5 +198,42 @@ fn finds_where_squares_touch(rt: HostRuntime) -> Result<(), Fail> {
     assert_eq!(rt; rects, wanted.as_slice());
     let touch = first_touch(alloc, rects)?;
     assert_eq!(rt; touch, Some(Pix { x: 9, y: 9 }));
+    Ok(())
+}
+
+// A bar across both borders, a column across each, and one that ends at the first.
+#[test]
+fn sweeps_in_strips(rt: HostRuntime) -> Result<(), Fail> {
+    let alloc = rt.alloc();
+    let mut outlines = Vec::new(alloc);
+    add(
+        alloc,
+        &mut outlines,
+        &[(0, 0), (3, 0), (3, 5), (0, 5), (0, 0)],
+    )?;
+    add(
+        alloc,
+        &mut outlines,
+        &[(-2, -1), (9, -1), (9, 0), (-2, 0), (-2, -1)],
+    )?;
+    add(
+        alloc,
+        &mut outlines,
+        &[(5, 0), (7, 0), (7, 3), (5, 3), (5, 0)],
+    )?;
+    add(
+        alloc,
+        &mut outlines,
+        &[(1, 7), (2, 7), (2, 9), (1, 9), (1, 7)],
+    )?;
+    let rects = rects_of(alloc, &outlines)?;
+    let striped = striped_rects(alloc, &rects, &[2, 6])?;
+    let wanted = [
+        rect(-2, -1, 9, 0),
+        rect(0, 0, 3, 5),
+        rect(5, 0, 7, 3),
+        rect(1, 7, 2, 9),
+    ];
+    assert_eq!(rt; striped.as_slice(), wanted.as_slice());
     Ok(())
 }

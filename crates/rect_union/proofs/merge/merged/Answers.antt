@@ -3,7 +3,7 @@ use Rattle.rect_union.proofs.MergeLaws.{merging_starts, merging_step, merging_sw
 use Rattle.rect_union.proofs.merge.merged.Goals as goal
 
 pub loop-i-init : goal.loop-i-init
-loop-i-init c = rw c.new-columns.ensures.items (merging_starts c.args.first.now c.args.second.now)
+loop-i-init c = rw c.in_ok-columns.ensures.items (merging_starts c.args.first.now c.args.second.now)
 
 pub loop-i-preserved-then-takes_first : goal.loop-i-preserved-then-takes_first
 loop-i-preserved-then-takes_first c =

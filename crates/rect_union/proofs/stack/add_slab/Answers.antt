@@ -9,7 +9,7 @@ pub loop-run-init : goal.loop-run-init
 loop-run-init c =
     let bottom_fits : SFits w32 c.args.bottom = c.ranges.bottom in
     let top_fits : SFits w32 c.args.top = c.ranges.top in
-    simp (to_z-of_z, c.new-grown.ensures.items)
+    simp (to_z-of_z, c.in_ok-grown.ensures.items)
     (record {
       adding = adding_starts c.args.bottom c.args.top c.args.runs.now c.args.growing.now c.args.rects.now.items c.requires.high c.requires.stacked;
       pixels = λ x y. no_pixels _ _;

@@ -38,7 +38,7 @@ loop-quadrant-preserved c =
           let valid = simp to_z-of_z at w.in_ok-raise.ensures.valid in
           let begun = sweeping_raises c.args.quadrants.now c.args.owners c.loop-quadrant.state w.raise.new.self c.loop-quadrant.row.items
           (to_z w32 c.loop-quadrant.bottom-bits) c.loop-quadrant.quadrant-index quadrant c.requires.order c.loop-quadrant.invariant at next valid raises in
-          rw (c.in_ok-push.ensures.items, w.state-is, w.row-is, w.new-row-then-quadrant-bottom.ensures.items, w.bottom-is)
+          rw (c.in_ok-push.ensures.items, w.state-is, w.row-is, w.clear.ensures.items, w.bottom-is)
           (simp to_z-of_z
           (sweeping_pushes c.args.quadrants.now c.args.owners w.raise.new.self [] (get_or c.args.quadrants.now c.loop-quadrant.quadrant-index quadrant).y
           c.loop-quadrant.quadrant-index quadrant c.requires.order c.requires.owners begun at refl))
