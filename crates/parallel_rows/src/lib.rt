@@ -1,0 +1,12 @@
+//! Tests of tiles and of the parallel phase, on targets that are cut by the crates below.
+//!
+//! `scene` makes fragments, tables and tiles of some rectangles, and `sums` adds swept rectangles to sums of 0. The other
+//! modules have the tests, with numbers that were worked out by hand.
+#![tactic(auto)]
+
+#[cfg(test)]
+mod part_tests;
+pub mod scene;
+pub mod sums;
+#[cfg(test)]
+mod tile_tests;
