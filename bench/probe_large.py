@@ -78,6 +78,23 @@ def comb(count):
     return layout(structure(b"TOP", b"".join(boundary(1, 2 * i, -heights[i], 2 * i + 1, heights[i]) for i in range(count))))
 
 
+def joined_comb(count):
+    """The same, joined by a bar across all columns."""
+    heights = list(range(2, count + 2))
+    random.Random(SEED).shuffle(heights)
+    columns = b"".join(boundary(1, 2 * i, -heights[i], 2 * i + 1, heights[i]) for i in range(count))
+    return layout(structure(b"TOP", boundary(1, 0, 0, 2 * count, 1) + columns))
+
+
+def both_ways(count):
+    """So many columns, and above them so many rows, of different lengths in no order."""
+    lengths = list(range(1, count + 1))
+    random.Random(SEED).shuffle(lengths)
+    columns = b"".join(boundary(1, 2 * i, -lengths[i], 2 * i + 1, lengths[i]) for i in range(count))
+    rows = b"".join(boundary(1, -lengths[i], 100_000 + 2 * i, lengths[i], 100_001 + 2 * i) for i in range(count))
+    return layout(structure(b"TOP", columns + rows))
+
+
 def array(columns, rows):
     """An array of a square, 5 points a copy, side by side."""
     corners = points((0, 0), (columns * 10, 0), (0, rows * 10))
@@ -98,6 +115,8 @@ LAYOUTS = {
     "one_row": lambda: tall(15_000),
     "active": lambda: active(100_000),
     "comb": lambda: comb(16_384),
+    "joined_comb": lambda: joined_comb(8_000),
+    "both_ways": lambda: both_ways(8_192),
     "array": lambda: array(1023, 205),
     "other_layers": lambda: other_layers(67_108_864),
 }

@@ -18,6 +18,9 @@ const SIDES_IN_STRIP: usize = 32;
 
 const MOST_STRIPS: usize = 1024;
 
+/// A strip has a side more for so many rectangles that a border cuts, on the average.
+const CUT_FOR_SIDE: usize = 8;
+
 /// Rectangles that cover what the outlines do: those of the paths, and those of each polygon.
 pub fn rects_of(alloc: Global, outlines: &[Outline]) -> Result<Vec<Rect>, AllocError>
     requires placed { All IsPlaced outlines.now }
@@ -58,7 +61,7 @@ pub fn are_many_in_rows(alloc: Global, rects: &[Rect]) -> Result<bool, AllocErro
     Ok(rects_met(&ends) / FEW_IN_ROW > ends.len())
 }
 
-/// How many rectangles the rows have where one begins or ends, given by row, and whether it begins.
+/// How many rectangles the rows have where one begins or ends, given by row, and whether it begins; or the columns.
 fn rects_met(ends: &[(i32, bool)]) -> usize {
     let mut here: usize = 0;
     let mut met: usize = 0;
@@ -77,22 +80,31 @@ fn rects_met(ends: &[(i32, bool)]) -> usize {
 pub fn strip_borders(alloc: Global, rects: &[Rect]) -> Result<Vec<i32>, AllocError> {
     let mut sides = Vec::new(alloc);
     for rect in rects {
-        sides.push(rect.x0)?;
-        sides.push(rect.x1)?;
+        sides.push((rect.x0, true))?;
+        sides.push((rect.x1, false))?;
     }
     sides.sort_unstable();
-    let borders = every(alloc, &sides, SIDES_IN_STRIP.max(sides.len() / MOST_STRIPS))?;
+    let borders = every(alloc, &sides, sides_in_strip(&sides))?;
     Ok(borders)
 }
 
-/// Each number whose index is a multiple of the step, which is not 0.
-fn every(alloc: Global, numbers: &[i32], step: usize) -> Result<Vec<i32>, AllocError>
+/// How many vertical sides a strip is to have: the more, the more rectangles a border would cut.
+fn sides_in_strip(sides: &[(i32, bool)]) -> usize
+    ensures some { 0 < result }
+{
+    let cut = rects_met(sides) / sides.len().max(1);
+    let few = sides.len() / MOST_STRIPS;
+    SIDES_IN_STRIP.max(few).max(cut / CUT_FOR_SIDE)
+}
+
+/// Each side whose index is a multiple of the step, which is not 0.
+fn every(alloc: Global, sides: &[(i32, bool)], step: usize) -> Result<Vec<i32>, AllocError>
     requires some { 0 < step }
 {
     let mut kept = Vec::new(alloc);
-    for (index, number) in numbers.iter().enumerate() {
+    for (index, side) in sides.iter().enumerate() {
         if index % step == 0 {
-            kept.push(*number)?;
+            kept.push(side.0)?;
         }
     }
     Ok(kept)
