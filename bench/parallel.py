@@ -5,8 +5,9 @@ usage: bench/parallel.py PROGRAM [SQUARES]
 
 PROGRAM is the built program (`rt run` in crates/bench_parallel leaves it as crates/bench_parallel/out/bench_parallel). It is
 run on the four edges of each of 8,192 squares, or of so many, with these workers and with none, who add nothing, and the
-difference of the least wall times of three runs is printed. All workers have to leave the same number. Run by hand; the
-gate never runs it.
+difference of the least wall times of three runs is printed. All workers have to leave the same number. Beside other work
+the threads of one session may share one processor, whatever their priority: measure on an idle machine, or give the session
+priority (/proc/self/autogroup). Run by hand; the gate never runs it.
 """
 import subprocess
 import sys
