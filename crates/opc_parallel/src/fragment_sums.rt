@@ -3,7 +3,7 @@
 ghost use Rattle.std.specs.Prelude.{◌≡◌, ◌+◌, ◌*◌, ◌/◌, ◌%◌, ◌^◌, ◌<◌, ◌≤◌, pos, ◌≤ℤ◌, length};
 ghost use Rattle.opc_base.specs.Changes.{RisesBy};
 ghost use Rattle.opc_base.specs.Lanes.{lane_count, rect_change};
-ghost use Rattle.opc_base.specs.Plane.{IsPixWithin, IsRectWithin};
+ghost use Rattle.opc_base.specs.Plane.{IsPixWithin};
 ghost use Rattle.lane_intensity.specs.Differences.{AreLanes};
 ghost use Rattle.tiles.specs.Meets.{meet};
 ghost use Rattle.opc_parallel.specs.Stored.{sample_change, stride_of};

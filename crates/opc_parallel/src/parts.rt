@@ -1,6 +1,6 @@
 //! The parts, and who runs them.
 
-ghost use Rattle.std.specs.Prelude.{◌≡◌, ℕ, ℤ, pos, ◌+ℤ◌, ◌+◌, ◌*◌, ◌<◌, ◌≤◌, ◌≤ℤ◌, All, length, sum_by, unsigned_abs};
+ghost use Rattle.std.specs.Prelude.{◌≡◌, ℤ, pos, ◌+ℤ◌, ◌+◌, ◌*◌, ◌<◌, ◌≤◌, ◌≤ℤ◌, All, length, sum_by, unsigned_abs};
 ghost use Rattle.std.specs.Thread.{IsSync};
 ghost use Rattle.opc_base.specs.Changes.{RisesBy};
 ghost use Rattle.tiles.specs.Tiles.{IsTilingOf, tile_count};

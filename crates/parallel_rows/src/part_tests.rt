@@ -1,6 +1,6 @@
 //! Parts that run side by side, and sums that are the same for each number of workers.
 
-ghost use Rattle.std.specs.Prelude.{◌≡◌, ◌+◌, ◌≤◌, All, OnOk, IfOk, length};
+ghost use Rattle.std.specs.Prelude.{◌+◌, ◌≤◌, All, IfOk, length};
 ghost use Rattle.opc_base.specs.Canonical.{IsSolid};
 ghost use Rattle.opc_base.specs.Plane.{IsRectWithin};
 ghost use Rattle.opc_parallel.specs.Conditions.{IsSweepable};

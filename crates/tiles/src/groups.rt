@@ -1,6 +1,6 @@
 //! Which keys stand in one tile.
 
-ghost use Rattle.std.specs.Prelude.{◌≡◌, ◌≢◌, ◌⊎◌, ◌-◌, ◌<◌, ◌≤◌, true, false, ℕ, ◌+◌, IfOk, MatchBool, length};
+ghost use Rattle.std.specs.Prelude.{◌≡◌, ◌-◌, ◌<◌, ◌≤◌, true, false, IfOk, length};
 ghost use Rattle.tiles.specs.Index.{HoldGroups};
 ghost use Rattle.tiles.specs.Keys.{IsAscending, IsLastOf, IsNoLastOf};
 

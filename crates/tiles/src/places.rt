@@ -1,6 +1,6 @@
 //! Fragments by place, and places by fragment.
 
-ghost use Rattle.std.specs.Prelude.{◌≡◌, ◌≢◌, ℕ, ◌<◌, ◌≤◌, Some, IfOk, length, get_or, map, slice_get};
+ghost use Rattle.std.specs.Prelude.{◌≡◌, ℕ, ◌<◌, ◌≤◌, Some, IfOk, length, get_or, map, slice_get};
 ghost use Rattle.tiles.specs.Places.{AreOneEach};
 
 use crate::key::Key;

@@ -1,6 +1,6 @@
 //! The tiles that a rectangle reaches.
 
-ghost use Rattle.std.specs.Prelude.{◌≡◌, ◌&&◌, ℤ, int_lt};
+ghost use Rattle.std.specs.Prelude.{◌≡◌, ◌&&◌, int_lt};
 ghost use Rattle.std.specs.Int.{int_max, int_min};
 ghost use Rattle.tiles.specs.Meets.{meet};
 
