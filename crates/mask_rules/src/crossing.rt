@@ -13,7 +13,7 @@ ghost use Rattle.mask_rules.specs.Sweeps.{IsBeside, MiscountAt, NoneCrosses, cor
 
 use crate::first::earlier;
 use crate::placement::{Placement, end, line};
-use crate::spots::{first_spot, is_ahead, lowest};
+use crate::spots::{first_spots, is_ahead};
 use fragment::Near;
 use opc_base::{Pix, Rect};
 use outline_model::{is_vertical, rect_between};
@@ -45,15 +45,10 @@ fn first_miscount(present: &Placement, near: &Near, rect: &Rect, outward: bool) 
         (lowest (is_vertical (side_of present.now.fragments.now present.now.moved)) rect.now) outward }
     ensures { IsFirst (MiscountAt (mask present.now.fragments.now (line_of present.now)) rect.now outward) result }
 {
-    let across = first_spot(present, near, true, rect, outward);
-    let left = lowest(false, rect);
-    let along = first_spot(present, near, false, &left, outward);
     let vertical = is_vertical(present.fragments.get(present.moved).side);
-    let band = lowest(vertical, rect);
-    let begins = first_spot(present, near, vertical, &band, outward);
-    let ends = first_spot(present, near, vertical, &band, !outward);
-    let corner = corner_if(is_ahead(ends, begins), rect);
-    earlier(earlier(across, along), corner)
+    let spots = first_spots(present, near, vertical, rect, outward);
+    let corner = corner_if(is_ahead(spots.ends, spots.begins), rect);
+    earlier(earlier(spots.across, spots.along), corner)
 }
 
 /// The first pixel at which the outline crosses or touches itself where the moved fragment has the offset `to`, and
