@@ -18,7 +18,7 @@ use Rattle.mask_rules.specs.First.{IsUpTo, ReachesUpTo, IsFirst}
 use Rattle.mask_rules.specs.Stretches.{Spans, pixel_at, rect_at, stretch_at}
 use Rattle.mask_rules.proofs.Changed.{stretch_within}
 use Rattle.mask_rules.proofs.ClashFacts.{and_true, lt_true, some_of, pair_of_test, point_of_test, meeting_of_test}
-use Rattle.mask_rules.proofs.Firsts.{first_from, IsFirst-cover, IsFirst-earlier, IsFirst-one, IsFirst-list}
+use Rattle.mask_rules.proofs.Firsts.{first_from, IsFirst-cover, IsFirst-earlier, IsFirst-one, IsFirst-list, IsFirst-none}
 
 le_true : (a b : ℤ) → a ≤ℤ b → int_le a b ≡ true
 le_true a b less = by (int_le a b) refl
@@ -39,10 +39,16 @@ covers_at false first past low high a t e f g h = covers_in (rect_at false first
 abbrev StandsIn : Rect → Bool → Stretch → Type 0
 StandsIn r v s = (t : ℤ) × Spans s t × (rect_cover r (pixel_at v s.at t).x (pixel_at v s.at t).y ≡ true)
 
+-- how far apart two stretches can clash
+abbrev pub reach : Clash → ℤ
+reach Meet = pos 0
+reach (Narrow covered least) = least
+reach Touch = pos 0
+
 -- each of two stretches that clash is in the rectangle around the other
-clash_near : (clash : Clash) (v : Bool) (p q : Stretch) (pixel : Pix) → IsClash clash → clash_pixel clash v p q ≡ Some pixel
-    → StandsIn (around clash v p) v q × StandsIn (around clash v q) v p
-clash_near Meet v p q pixel limits e =
+clash_near : (far : ℤ) (clash : Clash) (v : Bool) (p q : Stretch) (pixel : Pix) → IsClash clash → reach clash ≤ℤ far → clash_pixel clash v p q ≡ Some pixel
+    → StandsIn (around far v p) v q × StandsIn (around far v q) v p
+clash_near far Meet v p q pixel limits enough e =
     let m = meeting_of_test p q (some_of (is_meeting p q) _ _ e).0 in
     let t = int_max p.low q.low in
     let level : p.at ≡ q.at = m.level in
@@ -52,7 +58,7 @@ clash_near Meet v p q pixel limits e =
       (t, m.first, covers_at v _ _ _ _ p.at t (within_reach q.at p.at (sym level)).0 (within_reach q.at p.at (sym level)).1 (a_low q.low t c) (a_high q.high t d)),
     )
   where
-    within_reach : (a b : ℤ) → a ≡ b → ((a -ℤ pos 0) ≤ℤ b) × (b <ℤ (a +ℤ pos 0 +ℤ pos 1))
+    within_reach : (a b : ℤ) → a ≡ b → ((a -ℤ far) ≤ℤ b) × (b <ℤ (a +ℤ far +ℤ pos 1))
     within_reach a b e = (omega (arith, ints), omega (arith, ints))
 
     a_low : (a t : ℤ) → a ≤ℤ t → (a -ℤ pos 1) ≤ℤ t
@@ -60,31 +66,30 @@ clash_near Meet v p q pixel limits e =
 
     a_high : (a t : ℤ) → t <ℤ a → t <ℤ (a +ℤ pos 1)
     a_high a t e = omega (arith, ints)
-clash_near (Narrow covered least) v p q pixel limits e =
+clash_near far (Narrow covered least) v p q pixel limits enough e =
     let m = pair_of_test p q covered least (some_of (is_narrow covered least p q) _ _ e).0 in
     let t = int_max p.low q.low in
     let apart : p.at <ℤ q.at = m.apart in let short : q.at <ℤ (p.at +ℤ least) = m.short in
     let a : p.low ≤ℤ t = m.first.0 in let b : t <ℤ p.high = m.first.1 in
     let c : q.low ≤ℤ t = m.second.0 in let d : t <ℤ q.high = m.second.1 in
-    let some : pos 0 ≤ℤ least = limits.0 in
-    let reach_q = after p.at q.at apart short some in
-    let reach_p = before p.at q.at apart short some in (
+    let reach_q = after p.at q.at apart short in
+    let reach_p = before p.at q.at apart short in (
       (t, m.second, covers_at v _ _ _ _ q.at t reach_q.0 reach_q.1 (a_low p.low t a) (a_high p.high t b)),
       (t, m.first, covers_at v _ _ _ _ p.at t reach_p.0 reach_p.1 (a_low q.low t c) (a_high q.high t d)),
     )
   where
-    after : (a b : ℤ) → a <ℤ b → b <ℤ (a +ℤ least) → pos 0 ≤ℤ least → ((a -ℤ least) ≤ℤ b) × (b <ℤ (a +ℤ least +ℤ pos 1))
-    after a b e f g = (omega (arith, ints), omega (arith, ints))
+    after : (a b : ℤ) → a <ℤ b → b <ℤ (a +ℤ least) → ((a -ℤ far) ≤ℤ b) × (b <ℤ (a +ℤ far +ℤ pos 1))
+    after a b e f = (omega (arith, ints), omega (arith, ints))
 
-    before : (a b : ℤ) → a <ℤ b → b <ℤ (a +ℤ least) → pos 0 ≤ℤ least → ((b -ℤ least) ≤ℤ a) × (a <ℤ (b +ℤ least +ℤ pos 1))
-    before a b e f g = (omega (arith, ints), omega (arith, ints))
+    before : (a b : ℤ) → a <ℤ b → b <ℤ (a +ℤ least) → ((b -ℤ far) ≤ℤ a) × (a <ℤ (b +ℤ far +ℤ pos 1))
+    before a b e f = (omega (arith, ints), omega (arith, ints))
 
     a_low : (a t : ℤ) → a ≤ℤ t → (a -ℤ pos 1) ≤ℤ t
     a_low a t e = omega (arith, ints)
 
     a_high : (a t : ℤ) → t <ℤ a → t <ℤ (a +ℤ pos 1)
     a_high a t e = omega (arith, ints)
-clash_near Touch v p q pixel limits e =
+clash_near far Touch v p q pixel limits enough e =
     let m = (point_of_test v p q (some_of (is_touching v p q) _ _ e).0).1 in
     let level : p.at ≡ q.at = m.level in let meets : p.high ≡ q.low = m.meets in
     let some : p.low <ℤ p.high = m.some in let some_too : q.low <ℤ q.high = m.some_too in
@@ -96,7 +101,7 @@ clash_near Touch v p q pixel limits e =
       (p.high -ℤ pos 1, p_spans, covers_at v _ _ _ _ p.at (p.high -ℤ pos 1) (within_reach q.at p.at (sym level)).0 (within_reach q.at p.at (sym level)).1 p_along.0 p_along.1),
     )
   where
-    within_reach : (a b : ℤ) → a ≡ b → ((a -ℤ pos 0) ≤ℤ b) × (b <ℤ (a +ℤ pos 0 +ℤ pos 1))
+    within_reach : (a b : ℤ) → a ≡ b → ((a -ℤ far) ≤ℤ b) × (b <ℤ (a +ℤ far +ℤ pos 1))
     within_reach a b e = (omega (arith, ints), omega (arith, ints))
 
     along : (a b c : ℤ) → a <ℤ b → b ≡ c → ((a -ℤ pos 1) ≤ℤ c) × (c <ℤ (b +ℤ pos 1))
@@ -117,14 +122,15 @@ pub record IsAllNear (fs : List Fragment) (reach : ℤ) (r : Rect) (numbers : Li
 pub contained_below : (fs : List Fragment) (reach : ℤ) (r : Rect) (numbers : List ℕ) (k : ℕ) → IsAllNear fs reach r numbers → Contains numbers k → k < length fs
 contained_below fs reach r numbers k near at = subst (λ m. m < length fs) at.2 (near.below at.0 k at.1)
 
-pub first_clash_is : (fs : List Fragment) (line : ℕ → ℤ) (reach : ℤ) (clash : Clash) (v : Bool) (c : ℕ) (numbers : List ℕ)
-    → IsFragmentList fs → pos 0 ≤ℤ reach → KeepNear fs line reach → IsClash clash → IsAllNear fs reach (around clash v (stretch_at fs line v c)) numbers
+pub first_clash_is : (fs : List Fragment) (line : ℕ → ℤ) (most far : ℤ) (clash : Clash) (v : Bool) (c : ℕ) (numbers : List ℕ)
+    → IsFragmentList fs → pos 0 ≤ℤ most → KeepNear fs line most → IsClash clash → reach clash ≤ℤ far
+    → IsAllNear fs most (around far v (stretch_at fs line v c)) numbers
     → IsFirst (ClashesOf fs line clash v c) (first_from (λ k. pair_pixel clash v (stretch_at fs line v c) (stretch_at fs line v k)) None numbers)
-first_clash_is fs line reach clash v c numbers fragments least keep limits near =
+first_clash_is fs line most far clash v c numbers fragments least keep limits enough near =
     IsFirst-cover (λ p. (k : ℕ) × Contains numbers k × (pair_pixel clash v mine (stretch_at fs line v k) ≡ Some p)) _ _
     (λ p found. (
       found.0,
-      contained_below fs reach _ numbers found.0 near found.1,
+      contained_below fs most _ numbers found.0 near found.1,
       (pair_first found.0).is_one p found.2,
     ))
     (λ q found.
@@ -142,14 +148,28 @@ first_clash_is fs line reach clash v c numbers fragments least keep limits near 
         IsFirst-earlier _ _ (clash_pixel clash v mine (stretch_at fs line v k)) (clash_pixel clash v (stretch_at fs line v k) mine)
         (IsFirst-one (clash_pixel clash v mine (stretch_at fs line v k))) (IsFirst-one (clash_pixel clash v (stretch_at fs line v k) mine))
 
-    in_list : (k : ℕ) → k < length fs → StandsIn (around clash v mine) v (stretch_at fs line v k) → Contains numbers k
+    in_list : (k : ℕ) → k < length fs → StandsIn (around far v mine) v (stretch_at fs line v k) → Contains numbers k
     in_list k below stands =
-        near.complete k _ _ below stands.2 (stretch_within fs line reach v k stands.0 fragments least keep below stands.1)
+        near.complete k _ _ below stands.2 (stretch_within fs line most v k stands.0 fragments least keep below stands.1)
 
     contained : (k : ℕ) → k < length fs → (q : Pix)
         → (clash_pixel clash v mine (stretch_at fs line v k) ≡ Some q) ⊎ (clash_pixel clash v (stretch_at fs line v k) mine ≡ Some q)
         → Contains numbers k
     contained k below q h = elim h [
-      | inl first ↦ in_list k below (clash_near clash v mine (stretch_at fs line v k) q limits first).0
-      | inr second ↦ in_list k below (clash_near clash v (stretch_at fs line v k) mine q limits second).1
+      | inl first ↦ in_list k below (clash_near far clash v mine (stretch_at fs line v k) q limits enough first).0
+      | inr second ↦ in_list k below (clash_near far clash v (stretch_at fs line v k) mine q limits enough second).1
     ]
+
+-- a stretch of no length clashes with none
+pub no_clash : (fs : List Fragment) (line : ℕ → ℤ) (clash : Clash) (v : Bool) (c : ℕ) → IsClash clash
+    → (stretch_at fs line v c).low ≡ (stretch_at fs line v c).high → IsFirst (ClashesOf fs line clash v c) None
+no_clash fs line clash v c limits empty = IsFirst-none _ (λ p found. elim found.2 [
+  | inl first ↦ spans_none _ (stretch_at fs line v c) empty (clash_near (reach clash) clash v (stretch_at fs line v c) (stretch_at fs line v found.0) p limits same first).1
+  | inr second ↦ spans_none _ (stretch_at fs line v c) empty (clash_near (reach clash) clash v (stretch_at fs line v found.0) (stretch_at fs line v c) p limits same second).0
+])
+  where
+    same : reach clash ≤ℤ reach clash
+    same = omega (arith, ints)
+
+    spans_none : (r : Rect) (s : Stretch) → s.low ≡ s.high → ¬ StandsIn r v s
+    spans_none r s e stands = let low = stands.1.0 in let high = stands.1.1 in omega (arith, ints)

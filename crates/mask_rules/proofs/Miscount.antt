@@ -225,7 +225,7 @@ corner_ahead inside n s v band outward m o drawn one beside m_first o_first corn
 
 -- ---- all wrong counts
 
-covers_of : (r : Rect) (x y : ℤ) → rect_cover r x y ≡ true → (r.x0 ≤ℤ x) × (x <ℤ r.x1) × (r.y0 ≤ℤ y) × (y <ℤ r.y1)
+pub covers_of : (r : Rect) (x y : ℤ) → rect_cover r x y ≡ true → (r.x0 ≤ℤ x) × (x <ℤ r.x1) × (r.y0 ≤ℤ y) × (y <ℤ r.y1)
 covers_of r x y e =
     let lower : (int_le r.x0 x && int_lt x r.x1) && int_le r.y0 y ≡ true = and_left _ _ e in
     let across : int_le r.x0 x && int_lt x r.x1 ≡ true = and_left _ _ lower in

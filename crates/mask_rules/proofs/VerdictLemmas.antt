@@ -18,6 +18,7 @@ use Rattle.mask_rules.specs.Clashes.{ClashesNow}
 use Rattle.mask_rules.specs.First.{IsUpTo, ReachesUpTo, IsFirst}
 use Rattle.mask_rules.specs.Verdicts.{IsJudged, IsOrdered, NoneBreaks, broken_fragment, broken_pixel}
 use Rattle.mask_rules.specs.Sweeps.{NoneCrosses}
+use Rattle.mask_rules.specs.TargetRules.{verdict}
 use Rattle.mask_rules.proofs.Judged.{narrow_first, touch_first}
 use Rattle.mask_rules.proofs.OffsetMoves.{step_of}
 
@@ -159,6 +160,24 @@ judged_none rules fs offsets m5 m4 m0 m1 m2 m3 = record {
     all M1 = m1
     all M2 = m2
     all M3 = m3
+
+-- the first of the rules M1, M2 and M3 for which there is a pixel
+pub judged_verdict : (rules : MaskRules) (fs : List Fragment) (offsets : List ℤ) (narrow tight touch : Option Pix)
+    → NoneBreaks rules fs offsets M5 → NoneBreaks rules fs offsets M4 → NoneBreaks rules fs offsets M0
+    → IsFirst (λ p. Breaks rules fs offsets M1 (Pixel p)) narrow → IsFirst (λ p. Breaks rules fs offsets M2 (Pixel p)) tight
+    → IsFirst (λ p. Breaks rules fs offsets M3 (Pixel p)) touch → IsJudged rules fs offsets (verdict narrow tight touch)
+judged_verdict rules fs offsets (Some p) tight touch m5 m4 m0 is_m1 is_m2 is_m3 =
+    judged_pixel rules fs offsets M1 p (Some p) is_m1 refl (before_m1 rules fs offsets m5 m4 m0)
+judged_verdict rules fs offsets None (Some p) touch m5 m4 m0 is_m1 is_m2 is_m3 =
+    let m1 = none_m1 rules fs offsets None is_m1 refl in
+    judged_pixel rules fs offsets M2 p (Some p) is_m2 refl (before_m2 rules fs offsets m5 m4 m0 m1)
+judged_verdict rules fs offsets None None (Some p) m5 m4 m0 is_m1 is_m2 is_m3 =
+    let m1 = none_m1 rules fs offsets None is_m1 refl in
+    let m2 = none_m2 rules fs offsets None is_m2 refl in
+    judged_pixel rules fs offsets M3 p (Some p) is_m3 refl (before_m3 rules fs offsets m5 m4 m0 m1 m2)
+judged_verdict rules fs offsets None None None m5 m4 m0 is_m1 is_m2 is_m3 =
+    judged_none rules fs offsets m5 m4 m0 (none_m1 rules fs offsets None is_m1 refl) (none_m2 rules fs offsets None is_m2 refl)
+    (none_m3 rules fs offsets None is_m3 refl)
 
 -- ---- the rules of fragments
 

@@ -49,15 +49,9 @@ clash_place Touch v p q = pixel_at v (p.at -ℤ pos 1) (p.high -ℤ pos 1)
 abbrev pub clash_pixel : Clash → Bool → Stretch → Stretch → Option Pix
 clash_pixel clash v p q = if clash_test clash v p q then Some (clash_place clash v p q) else None
 
--- how far apart two stretches can clash
-abbrev pub reach : Clash → ℤ
-reach Meet = pos 0
-reach (Narrow covered least) = least
-reach Touch = pos 0
-
--- a rectangle that has the places beside a stretch at which others can clash with it
-abbrev pub around : Clash → Bool → Stretch → Rect
-around clash v s = rect_at v (s.at -ℤ reach clash) (s.at +ℤ reach clash +ℤ pos 1) (s.low -ℤ pos 1) (s.high +ℤ pos 1)
+-- a rectangle that has the places beside a stretch at which others that are at most `reach` apart can clash with it
+abbrev pub around : ℤ → Bool → Stretch → Rect
+around reach v s = rect_at v (s.at -ℤ reach) (s.at +ℤ reach +ℤ pos 1) (s.low -ℤ pos 1) (s.high +ℤ pos 1)
 
 -- the first pixel of the clashes of two stretches, whichever comes first
 abbrev pub pair_pixel : Clash → Bool → Stretch → Stretch → Option Pix

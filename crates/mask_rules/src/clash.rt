@@ -1,6 +1,6 @@
 ghost use Rattle.std.specs.Prelude.{◌≡◌};
 ghost use Rattle.outline_model.specs.Ranges.{IsWithin};
-ghost use Rattle.mask_rules.specs.Clashes.{IsClash, around, clash_pixel, clash_place, clash_test, is_meeting, is_narrow, is_touching, of_colour, overlap, reach};
+ghost use Rattle.mask_rules.specs.Clashes.{IsClash, around, clash_pixel, clash_place, clash_test, is_meeting, is_narrow, is_touching, of_colour, overlap};
 ghost use Rattle.mask_rules.specs.Limits.{IsStretchWithin};
 
 use crate::stretch::{Stretch, pixel_at, rect_at};
@@ -87,18 +87,6 @@ impl Clash {
         }
     }
 
-    fn reach(self) -> i32
-        requires clash { IsClash self }
-        ensures reach { result ≡ reach self }
-        ensures within { IsWithin 1024 result }
-    {
-        match self {
-            Clash::Meet => 0,
-            Clash::Narrow { least, .. } => least,
-            Clash::Touch => 0,
-        }
-    }
-
     /// The first pixel of the clash of two stretches.
     pub fn pixel(self, vertical: bool, first: Stretch, second: Stretch) -> Option<Pix>
         requires clash { IsClash self }
@@ -112,16 +100,15 @@ impl Clash {
             None
         }
     }
+}
 
-    /// A rectangle that has the places beside a stretch at which others can clash with it.
-    pub fn around(self, vertical: bool, stretch: Stretch) -> Rect
-        requires clash { IsClash self }
-        requires stretch { IsStretchWithin stretch }
-        ensures { result ≡ around self vertical stretch }
-    {
-        let reach = self.reach();
-        let first = stretch.at - reach;
-        let past = stretch.at + reach + 1;
-        rect_at(vertical, first, past, stretch.low - 1, stretch.high + 1)
-    }
+/// A rectangle that has the places beside a stretch at which others that are at most `reach` apart can clash with it.
+pub fn around(reach: i32, vertical: bool, stretch: Stretch) -> Rect
+    requires reach { IsWithin 1024 reach }
+    requires stretch { IsStretchWithin stretch }
+    ensures { result ≡ around reach vertical stretch }
+{
+    let first = stretch.at - reach;
+    let past = stretch.at + reach + 1;
+    rect_at(vertical, first, past, stretch.low - 1, stretch.high + 1)
 }

@@ -3,17 +3,17 @@ ghost use Rattle.outline_model.specs.Limits.{IsFragmentList};
 ghost use Rattle.outline_model.specs.Ranges.{IsWithin};
 ghost use Rattle.outline_model.specs.Outline.{high_end, is_vertical, low_end, mask, side_of, swept};
 ghost use Rattle.outline_model.specs.Rules.{CrossesAt};
+ghost use Rattle.mask_rules.specs.declared.clash.Clash.TheVariants.{Meet};
+ghost use Rattle.mask_rules.specs.Clashes.{ClashesNow};
 ghost use Rattle.mask_rules.specs.First.{IsFirst};
 ghost use Rattle.mask_rules.specs.Limits.{IsRectWithin};
 ghost use Rattle.mask_rules.specs.Placements.{IsNearOffset, IsPlacement, line_of, line_to};
 ghost use Rattle.mask_rules.specs.Spots.{lowest};
 ghost use Rattle.mask_rules.specs.Sweeps.{IsBeside, MiscountAt, NoneCrosses, corner_of};
 
-use crate::clash::Clash;
 use crate::first::earlier;
 use crate::placement::{Placement, end, line};
-use crate::search::first_clash;
-use crate::spots::{first_spot, is_ahead, lowest};
+use crate::spots::{first_spots, is_ahead};
 use fragment::Near;
 use opc_base::{Pix, Rect};
 use outline_model::{is_vertical, rect_between};
@@ -45,19 +45,20 @@ fn first_miscount(present: &Placement, near: &Near, rect: &Rect, outward: bool) 
         (lowest (is_vertical (side_of present.now.fragments.now present.now.moved)) rect.now) outward }
     ensures { IsFirst (MiscountAt (mask present.now.fragments.now (line_of present.now)) rect.now outward) result }
 {
-    let across = first_spot(present, near, true, rect, outward);
-    let left = lowest(false, rect);
-    let along = first_spot(present, near, false, &left, outward);
     let vertical = is_vertical(present.fragments.get(present.moved).side);
-    let band = lowest(vertical, rect);
-    let begins = first_spot(present, near, vertical, &band, outward);
-    let ends = first_spot(present, near, vertical, &band, !outward);
-    let corner = corner_if(is_ahead(ends, begins), rect);
-    earlier(earlier(across, along), corner)
+    let spots = first_spots(present, near, vertical, rect, outward);
+    let corner = corner_if(is_ahead(spots.ends, spots.begins), rect);
+    earlier(earlier(spots.across, spots.along), corner)
 }
 
-/// The first pixel at which the outline crosses or touches itself where the moved fragment has the offset `to`.
-pub fn first_crossing(present: &Placement, near: &Near, to: i32) -> Option<Pix>
+/// The first pixel at which the outline crosses or touches itself where the moved fragment has the offset `to`, and
+/// `meeting` is the first at which it then meets itself along a line.
+pub fn first_crossing(
+    present: &Placement,
+    near: &Near,
+    to: i32,
+    meeting: Option<Pix>,
+) -> Option<Pix>
     requires placement { IsPlacement present.now }
     requires near { near.now ≡ present.now.fragments.now }
     requires to { IsWithin 128 to }
@@ -66,6 +67,7 @@ pub fn first_crossing(present: &Placement, near: &Near, to: i32) -> Option<Pix>
     requires crosses { NoneCrosses present.now.fragments.now (line_of present.now) }
     requires ordered { low_end present.now.fragments.now (line_of present.now) present.now.moved
         <ℤ high_end present.now.fragments.now (line_of present.now) present.now.moved }
+    requires meeting { IsFirst (ClashesNow present.now.fragments.now (line_to present.now to) Meet present.now.moved) meeting }
     ensures { IsFirst (λ p. CrossesAt present.now.fragments.now (line_to present.now to) p.x p.y) result }
 {
     let i = present.moved;
@@ -76,7 +78,6 @@ pub fn first_crossing(present: &Placement, near: &Near, to: i32) -> Option<Pix>
         to,
         reach: present.reach,
     };
-    let meeting = first_clash(&next, near, Clash::Meet);
     let rect = swept(present, line(&next, i));
     let miscount = first_miscount(present, near, &rect, present.to < to);
     earlier(meeting, miscount)

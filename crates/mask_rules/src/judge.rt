@@ -6,10 +6,10 @@ ghost use Rattle.mask_rules.specs.Limits.{IsRules};
 ghost use Rattle.mask_rules.specs.Placements.{IsNearOffset, IsPlacement, line_of};
 ghost use Rattle.mask_rules.specs.Verdicts.{IsJudged, IsOrdered, NoneBreaks, broken_fragment, broken_pixel};
 
-use crate::clash::Clash;
 use crate::crossing::first_crossing;
 use crate::placement::{Placement, is_ordered};
-use crate::search::first_clash;
+use crate::search::first_found;
+use crate::target_check::verdict;
 use fragment::{Fragments, Near};
 use opc_base::{Broken, MaskRules, Pix, Place, RuleName};
 
@@ -81,26 +81,10 @@ fn judge_pixels(present: &Placement, near: &Near, to: i32, rules: &MaskRules) ->
         to,
         reach: present.reach,
     };
-    let narrow = Clash::Narrow {
-        covered: true,
-        least: rules.width,
-    };
-    let close = Clash::Narrow {
-        covered: false,
-        least: rules.space,
-    };
-    match first_crossing(present, near, to) {
+    let found = first_found(&next, near, rules);
+    match first_crossing(present, near, to, found.meet) {
         Some(crossing) => Some(at_pixel(RuleName::M0, crossing)),
-        None => match first_clash(&next, near, narrow) {
-            Some(narrow_at) => Some(at_pixel(RuleName::M1, narrow_at)),
-            None => match first_clash(&next, near, close) {
-                Some(close_at) => Some(at_pixel(RuleName::M2, close_at)),
-                None => match first_clash(&next, near, Clash::Touch) {
-                    Some(touch_at) => Some(at_pixel(RuleName::M3, touch_at)),
-                    None => None,
-                },
-            },
-        },
+        None => verdict(found.narrow, found.close, found.touch),
     }
 }
 

@@ -1,84 +1,105 @@
 ghost use Rattle.std.specs.Prelude.{◌≡◌, ◌<◌, length};
 ghost use Rattle.mask_rules.specs.Clashes.{ClashesBeside, ClashesNow, ClashesOf, IsClash, pair_pixel};
-ghost use Rattle.mask_rules.specs.First.{IsFirst};
-ghost use Rattle.mask_rules.specs.Limits.{IsStretchWithin};
+ghost use Rattle.mask_rules.specs.Found.{IsFound, pair_found};
+ghost use Rattle.mask_rules.specs.Limits.{IsRules, IsStretchWithin};
 ghost use Rattle.mask_rules.specs.Placements.{IsPlacement, line_of};
 ghost use Rattle.mask_rules.specs.Stretches.{stretch_at};
 
-use crate::clash::Clash;
-use crate::first::earlier;
+use crate::clash::{Clash, around};
+use crate::first::{Found, earlier, earlier_each, none_found};
 use crate::placement::{Placement, stretch};
 use crate::stretch::Stretch;
 use fragment::Near;
-use opc_base::Pix;
+use opc_base::{MaskRules, Pix};
 
-/// The first pixel of the clashes of a stretch with that of fragment `k`.
-fn pair_pixel(
-    outline: &Placement,
-    clash: Clash,
-    vertical: bool,
-    mine: Stretch,
-    k: u32,
-) -> Option<Pix>
-    requires placement { IsPlacement outline.now }
+/// The first pixel of the clashes of two stretches, whichever of them comes first.
+fn pair_pixel(clash: Clash, vertical: bool, mine: Stretch, other: Stretch) -> Option<Pix>
     requires clash { IsClash clash }
-    requires stretch { IsStretchWithin mine }
-    requires k { k < length outline.now.fragments.now }
-    ensures { result ≡ pair_pixel clash vertical mine (stretch_at outline.now.fragments.now (line_of outline.now) vertical k) }
+    requires mine { IsStretchWithin mine }
+    requires other { IsStretchWithin other }
+    ensures { result ≡ pair_pixel clash vertical mine other }
 {
-    let other = stretch(outline, vertical, k);
     let first = clash.pixel(vertical, mine, other);
     let second = clash.pixel(vertical, other, mine);
     earlier(first, second)
 }
 
-/// The first pixel of the clashes of fragment `c`'s stretch with those of other fragments.
-fn first_clash_of(
+/// The first pixel of each kind of clash of a stretch with that of fragment `k`.
+fn pair_found(
     outline: &Placement,
-    near: &Near,
-    clash: Clash,
+    rules: &MaskRules,
     vertical: bool,
-    c: u32,
-) -> Option<Pix>
+    mine: Stretch,
+    k: u32,
+) -> Found
+    requires placement { IsPlacement outline.now }
+    requires rules { IsRules rules.now }
+    requires stretch { IsStretchWithin mine }
+    requires k { k < length outline.now.fragments.now }
+    ensures { result ≡ pair_found rules.now vertical mine (stretch_at outline.now.fragments.now (line_of outline.now) vertical k) }
+{
+    let other = stretch(outline, vertical, k);
+    let narrow = Clash::Narrow {
+        covered: true,
+        least: rules.width,
+    };
+    let close = Clash::Narrow {
+        covered: false,
+        least: rules.space,
+    };
+    Found {
+        meet: pair_pixel(Clash::Meet, vertical, mine, other),
+        narrow: pair_pixel(narrow, vertical, mine, other),
+        close: pair_pixel(close, vertical, mine, other),
+        touch: pair_pixel(Clash::Touch, vertical, mine, other),
+    }
+}
+
+/// The first pixels of the clashes of fragment `c`'s stretch with those of other fragments.
+fn found_of(outline: &Placement, near: &Near, rules: &MaskRules, vertical: bool, c: u32) -> Found
     requires placement { IsPlacement outline.now }
     requires near { near.now ≡ outline.now.fragments.now }
-    requires clash { IsClash clash }
+    requires rules { IsRules rules.now }
     requires c { c < length outline.now.fragments.now }
-    ensures { IsFirst (ClashesOf outline.now.fragments.now (line_of outline.now) clash vertical c) result }
+    ensures { IsFound rules.now (λ clash. ClashesOf outline.now.fragments.now (line_of outline.now) clash vertical c) result }
 {
     let mine = stretch(outline, vertical, c);
-    let mut first = None;
-    for k in near.meets_within(&clash.around(vertical, mine), outline.reach) {
-        let found = pair_pixel(outline, clash, vertical, mine, k);
-        first = earlier(first, found);
+    if mine.low == mine.high {
+        return none_found();
+    }
+    let mut first = none_found();
+    let reach = rules.width.max(rules.space);
+    for k in near.meets_within(&around(reach, vertical, mine), outline.reach) {
+        let found = pair_found(outline, rules, vertical, mine, k);
+        first = earlier_each(first, found);
     }
     first
 }
 
-/// The first pixel of the clashes of fragment `c`'s stretches with those of other fragments.
-fn first_clash_beside(outline: &Placement, near: &Near, clash: Clash, c: u32) -> Option<Pix>
+/// The first pixels of the clashes of fragment `c`'s stretches with those of other fragments.
+fn found_beside(outline: &Placement, near: &Near, rules: &MaskRules, c: u32) -> Found
     requires placement { IsPlacement outline.now }
     requires near { near.now ≡ outline.now.fragments.now }
-    requires clash { IsClash clash }
+    requires rules { IsRules rules.now }
     requires c { c < length outline.now.fragments.now }
-    ensures { IsFirst (ClashesBeside outline.now.fragments.now (line_of outline.now) clash c) result }
+    ensures { IsFound rules.now (λ clash. ClashesBeside outline.now.fragments.now (line_of outline.now) clash c) result }
 {
-    let upright = first_clash_of(outline, near, clash, true, c);
-    let level = first_clash_of(outline, near, clash, false, c);
-    earlier(upright, level)
+    let upright = found_of(outline, near, rules, true, c);
+    let level = found_of(outline, near, rules, false, c);
+    earlier_each(upright, level)
 }
 
-/// The first pixel of the clashes of the stretches that the move can have changed.
-pub fn first_clash(outline: &Placement, near: &Near, clash: Clash) -> Option<Pix>
+/// The first pixels of the clashes of the stretches that the move can have changed.
+pub fn first_found(outline: &Placement, near: &Near, rules: &MaskRules) -> Found
     requires placement { IsPlacement outline.now }
     requires near { near.now ≡ outline.now.fragments.now }
-    requires clash { IsClash clash }
-    ensures { IsFirst (ClashesNow outline.now.fragments.now (line_of outline.now) clash outline.now.moved) result }
+    requires rules { IsRules rules.now }
+    ensures { IsFound rules.now (λ clash. ClashesNow outline.now.fragments.now (line_of outline.now) clash outline.now.moved) result }
 {
     let i = outline.moved;
     let fragment = outline.fragments.get(i);
-    let before = first_clash_beside(outline, near, clash, fragment.previous());
-    let beside = first_clash_beside(outline, near, clash, i);
-    let after = first_clash_beside(outline, near, clash, fragment.next());
-    earlier(earlier(before, beside), after)
+    let before = found_beside(outline, near, rules, fragment.previous());
+    let beside = found_beside(outline, near, rules, i);
+    let after = found_beside(outline, near, rules, fragment.next());
+    earlier_each(earlier_each(before, beside), after)
 }

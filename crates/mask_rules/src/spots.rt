@@ -1,16 +1,15 @@
-ghost use Rattle.std.specs.Prelude.{◌≡◌, ◌<◌, length};
+ghost use Rattle.std.specs.Prelude.{◌≡◌, ◌<◌, ◌<ℤ◌, true, false, if◌then◌else◌, length, not};
 ghost use Rattle.outline_model.specs.Limits.{IsFragmentList};
 ghost use Rattle.outline_model.specs.Ranges.{IsWithin};
-ghost use Rattle.mask_rules.specs.First.{IsFirst};
 ghost use Rattle.mask_rules.specs.Limits.{IsRectWithin};
 ghost use Rattle.mask_rules.specs.Placements.{IsPlacement, line_of};
-ghost use Rattle.mask_rules.specs.Spots.{SpotsAt, is_ahead, is_inside, lowest, spot_pixel};
+ghost use Rattle.mask_rules.specs.Spots.{AreFirstSpots, is_ahead, is_inside, lowest, spot_pixel};
 ghost use Rattle.mask_rules.specs.Stretches.{stretch_at};
 
 use crate::clash::of_colour;
 use crate::first::{comes_before, earlier};
 use crate::placement::{Placement, stretch};
-use crate::stretch::{Stretch, pixel_at, rect_at};
+use crate::stretch::{Stretch, pixel_at};
 use fragment::Near;
 use opc_base::{Pix, Rect};
 
@@ -24,40 +23,96 @@ fn is_inside(band: &Rect, opens: bool, stretch: Stretch) -> bool
         & (stretch.low.max(band.y0) < stretch.high.min(band.y1))
 }
 
-/// The first pixel of the band after fragment `k`'s stretch.
-fn spot_pixel(outline: &Placement, vertical: bool, band: &Rect, opens: bool, k: u32) -> Option<Pix>
-    requires placement { IsPlacement outline.now }
-    requires k { k < length outline.now.fragments.now }
-    ensures spot { result ≡ spot_pixel vertical band.now opens (stretch_at outline.now.fragments.now (line_of outline.now) vertical k) }
+/// The first pixel of the band after the stretch.
+fn spot_pixel(vertical: bool, band: &Rect, opens: bool, stretch: Stretch) -> Option<Pix>
+    ensures { result ≡ spot_pixel vertical band.now opens stretch }
 {
-    let found = stretch(outline, vertical, k);
-    if is_inside(band, opens, found) {
-        Some(pixel_at(vertical, found.at, found.low.max(band.y0)))
+    if is_inside(band, opens, stretch) {
+        Some(pixel_at(vertical, stretch.at, stretch.low.max(band.y0)))
     } else {
         None
     }
 }
 
-/// The first pixel of the band after a stretch that has the inside there, or the outside.
-pub fn first_spot(
+/// The first pixels of a rectangle after stretches inside it that have the inside there, or the outside.
+#[derive(Clone, Copy)]
+pub struct FirstSpots {
+    /// After upright stretches.
+    pub across: Option<Pix>,
+    /// After level stretches, in the column of least x.
+    pub along: Option<Pix>,
+    /// After stretches of one direction, among the pixels of lowest place along.
+    pub begins: Option<Pix>,
+    /// The same, after stretches that have the other side there.
+    pub ends: Option<Pix>,
+}
+
+fn choose(vertical: bool, upright: Stretch, level: Stretch) -> Stretch
+    ensures { result ≡ (if vertical then upright else level) }
+{
+    if vertical { upright } else { level }
+}
+
+/// The first pixels of the rectangle after fragment `k`'s stretches.
+fn spots_of(outline: &Placement, vertical: bool, rect: &Rect, opens: bool, k: u32) -> FirstSpots
+    requires placement { IsPlacement outline.now }
+    requires within { IsRectWithin rect.now }
+    requires k { k < length outline.now.fragments.now }
+    ensures across { result.across ≡ spot_pixel true rect.now opens (stretch_at outline.now.fragments.now (line_of outline.now) true k) }
+    ensures along { result.along ≡ spot_pixel false (lowest false rect.now) opens (stretch_at outline.now.fragments.now (line_of outline.now) false k) }
+    ensures begins { result.begins ≡ spot_pixel vertical (lowest vertical rect.now) opens (stretch_at outline.now.fragments.now (line_of outline.now) vertical k) }
+    ensures ends { result.ends ≡ spot_pixel vertical (lowest vertical rect.now) (not opens) (stretch_at outline.now.fragments.now (line_of outline.now) vertical k) }
+{
+    let upright = stretch(outline, true, k);
+    let level = stretch(outline, false, k);
+    let mine = choose(vertical, upright, level);
+    let left = lowest(false, rect);
+    let band = lowest(vertical, rect);
+    let across = spot_pixel(true, rect, opens, upright);
+    let along = spot_pixel(false, &left, opens, level);
+    let begins = spot_pixel(vertical, &band, opens, mine);
+    let ends = spot_pixel(vertical, &band, !opens, mine);
+    FirstSpots {
+        across,
+        along,
+        begins,
+        ends,
+    }
+}
+
+/// The first pixels of the rectangle after all stretches inside it.
+pub fn first_spots(
     outline: &Placement,
     near: &Near,
     vertical: bool,
-    band: &Rect,
+    rect: &Rect,
     opens: bool,
-) -> Option<Pix>
+) -> FirstSpots
     requires placement { IsPlacement outline.now }
     requires near { near.now ≡ outline.now.fragments.now }
     requires list { IsFragmentList outline.now.fragments.now }
-    ensures { IsFirst (SpotsAt outline.now.fragments.now (line_of outline.now) vertical band.now opens) result }
+    requires within { IsRectWithin rect.now }
+    requires wide { rect.now.x0 <ℤ rect.now.x1 }
+    requires high { rect.now.y0 <ℤ rect.now.y1 }
+    ensures { AreFirstSpots outline.now.fragments.now (line_of outline.now) vertical rect.now opens result }
 {
-    let mut first = None;
-    let zone = rect_at(vertical, band.x0, band.x1, band.y0, band.y1);
-    for k in near.meets_within(&zone, outline.reach) {
-        let found = spot_pixel(outline, vertical, band, opens, k);
-        first = earlier(first, found);
+    let mut across = None;
+    let mut along = None;
+    let mut begins = None;
+    let mut ends = None;
+    for k in near.meets_within(rect, outline.reach) {
+        let found = spots_of(outline, vertical, rect, opens, k);
+        across = earlier(across, found.across);
+        along = earlier(along, found.along);
+        begins = earlier(begins, found.begins);
+        ends = earlier(ends, found.ends);
     }
-    first
+    FirstSpots {
+        across,
+        along,
+        begins,
+        ends,
+    }
 }
 
 /// Whether there is a first pixel, and it comes before the other.

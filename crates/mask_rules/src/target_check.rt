@@ -28,7 +28,7 @@ pub fn check_target(
 }
 
 /// The first of the rules for which there is a pixel at which it is broken.
-fn verdict(narrow: Option<Pix>, tight: Option<Pix>, touch: Option<Pix>) -> Option<Broken>
+pub fn verdict(narrow: Option<Pix>, tight: Option<Pix>, touch: Option<Pix>) -> Option<Broken>
     ensures { result ≡ verdict narrow tight touch }
 {
     match (narrow, tight, touch) {

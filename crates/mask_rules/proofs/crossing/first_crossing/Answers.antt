@@ -61,7 +61,7 @@ returns c =
     let outward_is : int_lt (to_z w32 (of_z w32 p.to)) (to_z w32 (of_z w32 c.args.to)) ≡ int_lt p.to c.args.to =
     ap (λ t. int_lt t (to_z w32 (of_z w32 c.args.to))) (to_z-of_z w32 p.to from_fits) ∙ ap (int_lt p.to) (to_z-of_z w32 c.args.to to_fits) in
     subst (IsFirst (λ q. CrossesAt p.fragments.now (line_to p c.args.to) q.x q.y)) (sym c.earlier.ensures)
-    (crossing_is p.fragments.now p.offsets.now p.moved p.to c.args.to c.swept-rect.result _ c.first_clash-meeting.result c.first_miscount-miscount.result
+    (crossing_is p.fragments.now p.offsets.now p.moved p.to c.args.to c.swept-rect.result _ c.args.meeting c.first_miscount-miscount.result
     c.swept-rect.ensures.list.outline c.requires.placement.moved_below c.requires.placement.offsets_within.one_each c.requires.crosses c.requires.ordered
     (rect_is ∙ ap (swept p.fragments.now (line_of p) p.moved) line_is) outward_is
-    (simp to_z-of_z at c.first_clash-meeting.ensures) c.first_miscount-miscount.ensures)
+    c.requires.meeting c.first_miscount-miscount.ensures)

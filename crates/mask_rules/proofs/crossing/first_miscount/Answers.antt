@@ -1,7 +1,6 @@
 -- The first of the pixels that begin in the rectangle, and of its corner.
-use Rattle.std.proofs.Common.{◌≡◌, Bool, false, not, if◌then◌else◌, Some, None, length, sym, ◌∙◌, ap, subst}
+use Rattle.std.proofs.Common.{◌≡◌, Bool, not, if◌then◌else◌, Some, None, length, sym, ◌∙◌, ap, subst}
 use Rattle.outline_model.specs.declared.fragment.Fragment.{Fragment}
-use Rattle.opc_base.specs.declared.plane.Rect.{Rect}
 use Rattle.outline_model.specs.Outline.{is_vertical, mask, side_of}
 use Rattle.mask_rules.specs.First.{IsFirst, earlier}
 use Rattle.mask_rules.specs.Placements.{line_of}
@@ -22,22 +21,17 @@ returns c =
     let inside = mask fs line in
     let v = is_vertical (side_of fs p.moved) in
     let v_is : c.is_vertical-vertical.result ≡ v = c.is_vertical-vertical.ensures ∙ ap (λ (f : Fragment). is_vertical f.side) c.get.ensures.fragment in
-    let begins = c.first_spot-begins.result in
-    let ends = c.first_spot-ends.result in
-    let band_is : c.lowest-band.result ≡ lowest v r = c.lowest-band.ensures ∙ ap (λ t. lowest t r) v_is in
-    let along_first : IsFirst (SpotsAt fs line false (lowest false r) outward) c.first_spot-along.result =
-    subst (λ (l : Rect). IsFirst (SpotsAt fs line false l outward) c.first_spot-along.result) c.lowest-left.ensures c.first_spot-along.ensures in
-    let begins_first : IsFirst (SpotsAt fs line v (lowest v r) outward) begins =
-    subst (λ (t : Bool). IsFirst (SpotsAt fs line t (lowest v r) outward) begins) v_is
-    (subst (λ (l : Rect). IsFirst (SpotsAt fs line c.is_vertical-vertical.result l outward) begins) band_is c.first_spot-begins.ensures) in
-    let ends_first : IsFirst (SpotsAt fs line v (lowest v r) (not outward)) ends =
-    subst (λ (t : Bool). IsFirst (SpotsAt fs line t (lowest v r) (not outward)) ends) v_is
-    (subst (λ (l : Rect). IsFirst (SpotsAt fs line c.is_vertical-vertical.result l (not outward)) ends) band_is c.first_spot-ends.ensures) in
-    let corner_is : c.corner_if-corner.result ≡ (if is_ahead ends begins then Some (corner_of r) else None) =
+    let spots = c.first_spots-spots.result in
+    let found = c.first_spots-spots.ensures in
+    let begins_first : IsFirst (SpotsAt fs line v (lowest v r) outward) spots.begins =
+    subst (λ (t : Bool). IsFirst (SpotsAt fs line t (lowest t r) outward) spots.begins) v_is found.begins in
+    let ends_first : IsFirst (SpotsAt fs line v (lowest v r) (not outward)) spots.ends =
+    subst (λ (t : Bool). IsFirst (SpotsAt fs line t (lowest t r) (not outward)) spots.ends) v_is found.ends in
+    let corner_is : c.corner_if-corner.result ≡ (if is_ahead spots.ends spots.begins then Some (corner_of r) else None) =
     c.corner_if-corner.ensures ∙ ap (λ (t : Bool). if t then Some (corner_of r) else None) c.is_ahead.ensures in
     subst (IsFirst (MiscountAt inside r outward))
     (sym (c.earlier-2.ensures ∙ ap (λ t. earlier t c.corner_if-corner.result) c.earlier.ensures
-    ∙ ap (earlier (earlier c.first_spot-across.result c.first_spot-along.result)) corner_is))
-    (miscount_is inside (length fs) (stretch_at fs line) v r outward c.first_spot-across.result c.first_spot-along.result begins ends
+    ∙ ap (earlier (earlier spots.across spots.along)) corner_is))
+    (miscount_is inside (length fs) (stretch_at fs line) v r outward spots.across spots.along spots.begins spots.ends
     (drawn fs line c.requires.list.outline c.requires.crosses) c.requires.wide c.requires.high c.requires.beside
-    c.first_spot-across.ensures along_first begins_first ends_first)
+    found.across found.along begins_first ends_first)
