@@ -1,9 +1,7 @@
 -- Stretches that are apart clash in no way.
-use Rattle.std.proofs.Common.{◌≡◌, ◌⊎◌, sym, ◌∙◌, ap, subst}
+use Rattle.std.proofs.Common.{◌≡◌, ◌⊎◌, sym, ◌∙◌, ap}
 use Rattle.mask_rules.specs.declared.stretch.Stretch.{Stretch}
-use Rattle.mask_rules.specs.Found.{none_found, pair_found}
-use Rattle.mask_rules.specs.Placements.{line_of}
-use Rattle.mask_rules.specs.Stretches.{stretch_at}
+use Rattle.mask_rules.specs.Found.{pair_found}
 use Rattle.mask_rules.proofs.FoundLaws.{none_apart}
 use Rattle.mask_rules.proofs.search.pair_found.Goals as goal
 
