@@ -160,16 +160,20 @@ first_clash_is fs line most far clash v c numbers fragments least keep limits en
       | inr second ↦ in_list k below (clash_near far clash v (stretch_at fs line v k) mine q limits enough second).1
     ]
 
--- a stretch of no length clashes with none
+-- stretches that clash are not empty
+pub some_clash : (clash : Clash) (v : Bool) (p q : Stretch) (pixel : Pix) → IsClash clash → clash_pixel clash v p q ≡ Some pixel → ¬ (p.low ≡ p.high)
+some_clash clash v p q pixel limits e empty =
+    let spans = (clash_near (reach clash) clash v p q pixel limits (omega (arith, ints)) e).1.1 in
+    let low = spans.0 in let high = spans.1 in omega (arith, ints)
+
+pub clash_some : (clash : Clash) (v : Bool) (p q : Stretch) (pixel : Pix) → IsClash clash → clash_pixel clash v p q ≡ Some pixel → ¬ (q.low ≡ q.high)
+clash_some clash v p q pixel limits e empty =
+    let spans = (clash_near (reach clash) clash v p q pixel limits (omega (arith, ints)) e).0.1 in
+    let low = spans.0 in let high = spans.1 in omega (arith, ints)
+
 pub no_clash : (fs : List Fragment) (line : ℕ → ℤ) (clash : Clash) (v : Bool) (c : ℕ) → IsClash clash
     → (stretch_at fs line v c).low ≡ (stretch_at fs line v c).high → IsFirst (ClashesOf fs line clash v c) None
 no_clash fs line clash v c limits empty = IsFirst-none _ (λ p found. elim found.2 [
-  | inl first ↦ spans_none _ (stretch_at fs line v c) empty (clash_near (reach clash) clash v (stretch_at fs line v c) (stretch_at fs line v found.0) p limits same first).1
-  | inr second ↦ spans_none _ (stretch_at fs line v c) empty (clash_near (reach clash) clash v (stretch_at fs line v found.0) (stretch_at fs line v c) p limits same second).0
+  | inl first ↦ some_clash clash v (stretch_at fs line v c) (stretch_at fs line v found.0) p limits first empty
+  | inr second ↦ clash_some clash v (stretch_at fs line v found.0) (stretch_at fs line v c) p limits second empty
 ])
-  where
-    same : reach clash ≤ℤ reach clash
-    same = omega (arith, ints)
-
-    spans_none : (r : Rect) (s : Stretch) → s.low ≡ s.high → ¬ StandsIn r v s
-    spans_none r s e stands = let low = stands.1.0 in let high = stands.1.1 in omega (arith, ints)

@@ -1,5 +1,5 @@
 -- The first pixels of all kinds of clash at once.
-use Rattle.std.proofs.Common.{◌≡◌, ◌⊎◌, ℕ, ℤ, pos, ◌≤ℤ◌, Bool, true, false, List, [], ◌∷◌, refl, subst, arith}
+use Rattle.std.proofs.Common.{◌≡◌, ◌⊎◌, inl, inr, ℕ, ℤ, pos, ◌≤ℤ◌, Bool, true, false, not, Option, Some, None, List, [], ◌∷◌, refl, sym, ◌∙◌, ap, subst, arith}
 use Rattle.std.specs.List.{fold}
 use Rattle.std.proofs.lemmas.Int.{ints}
 use Rattle.outline_model.specs.declared.fragment.Fragment.{Fragment}
@@ -10,12 +10,15 @@ use Rattle.opc_base.specs.declared.rules.MaskRules.{MaskRules}
 use Rattle.mask_rules.specs.declared.clash.Clash.{Clash}
 use Rattle.mask_rules.specs.declared.clash.Clash.TheVariants.{Meet, Narrow, Touch}
 use Rattle.mask_rules.specs.declared.first.Found.{Found}
-use Rattle.mask_rules.specs.Clashes.{IsClash, ClashesOf, around}
-use Rattle.mask_rules.specs.First.{IsFirst}
+use Rattle.mask_rules.specs.declared.stretch.Stretch.{Stretch}
+use Rattle.mask_rules.specs.Clashes.{IsClash, ClashesOf, around, clash_pixel, is_meeting, is_narrow, is_touching, pair_pixel}
+use Rattle.mask_rules.specs.First.{IsFirst, earlier}
 use Rattle.mask_rules.specs.Found.{IsFound, earlier_each, none_found, pair_found}
 use Rattle.mask_rules.specs.Limits.{IsRules}
 use Rattle.mask_rules.specs.Stretches.{stretch_at}
-use Rattle.mask_rules.proofs.ClashSearch.{IsAllNear, first_clash_is, no_clash}
+use Rattle.mask_rules.proofs.ClashFacts.{meeting_of_test, pair_of_test, point_of_test, some_of}
+use Rattle.mask_rules.proofs.ClashFacts.{meeting_of_test, pair_of_test, point_of_test, some_of}
+use Rattle.mask_rules.proofs.ClashSearch.{IsAllNear, clash_some, first_clash_is, no_clash, some_clash}
 use Rattle.mask_rules.proofs.Firsts.{IsFirst-earlier, first_from}
 
 abbrev pub each_from : (ℕ → Found) → Found → List ℕ → Found
@@ -82,3 +85,48 @@ found_is rules fs line most far v c numbers limits width space fragments least k
 
     some : pos 0 ≤ℤ far
     some = let positive = limits.width_least in omega (arith, ints)
+
+-- ---- stretches that clash in no way
+
+not_itself : (b : Bool) → ¬ (b ≡ not b)
+not_itself true e = cc
+not_itself false e = cc
+
+-- stretches that clash have the inside on different sides
+opposite : (clash : Clash) (v : Bool) (p q : Stretch) (pixel : Pix) → clash_pixel clash v p q ≡ Some pixel → ¬ (p.opens ≡ q.opens)
+opposite Meet v p q pixel e same =
+    let m = meeting_of_test p q (some_of (is_meeting p q) _ _ e).0 in
+    not_itself true (sym m.opens ∙ same ∙ m.closes)
+opposite (Narrow covered least) v p q pixel e same =
+    let m = pair_of_test p q covered least (some_of (is_narrow covered least p q) _ _ e).0 in
+    not_itself covered (sym m.opens ∙ same ∙ m.closes)
+opposite Touch v p q pixel e same =
+    let m = (point_of_test v p q (some_of (is_touching v p q) _ _ e).0).1 in
+    not_itself q.opens (sym same ∙ m.opposite)
+
+none_is : (o : Option Pix) → ((p : Pix) → ¬ (o ≡ Some p)) → o ≡ None
+none_is None none = refl
+none_is (Some p) none = absurd (none p refl)
+
+no_pair : (clash : Clash) (v : Bool) (p q : Stretch) → IsClash clash → (p.opens ≡ q.opens) ⊎ (q.low ≡ q.high) → pair_pixel clash v p q ≡ None
+no_pair clash v p q limits apart =
+    let first : clash_pixel clash v p q ≡ None = none_is (clash_pixel clash v p q) (λ pixel e. elim apart [
+      | inl same ↦ opposite clash v p q pixel e same
+      | inr empty ↦ clash_some clash v p q pixel limits e empty
+    ]) in
+    let second : clash_pixel clash v q p ≡ None = none_is (clash_pixel clash v q p) (λ pixel e. elim apart [
+      | inl same ↦ opposite clash v q p pixel e (sym same)
+      | inr empty ↦ some_clash clash v q p pixel limits e empty
+    ]) in
+    ap (λ o. earlier o (clash_pixel clash v q p)) first ∙ ap (earlier None) second
+
+all_none : (a b c d : Option Pix) → a ≡ None → b ≡ None → c ≡ None → d ≡ None
+    → record { meet = a; narrow = b; close = c; touch = d } ≡ none_found
+all_none a b c d is_a is_b is_c is_d = rw (is_a, is_b, is_c, is_d) refl
+
+pub none_apart : (rules : MaskRules) (v : Bool) (p q : Stretch) → IsRules rules → (p.opens ≡ q.opens) ⊎ (q.low ≡ q.high)
+    → pair_found rules v p q ≡ none_found
+none_apart rules v p q limits apart =
+    all_none (pair_pixel Meet v p q) (pair_pixel (Narrow true rules.width) v p q) (pair_pixel (Narrow false rules.space) v p q) (pair_pixel Touch v p q)
+    (no_pair Meet v p q tt apart) (no_pair (Narrow true rules.width) v p q (width_clash rules limits) apart)
+    (no_pair (Narrow false rules.space) v p q (space_clash rules limits) apart) (no_pair Touch v p q tt apart)

@@ -1,4 +1,4 @@
-ghost use Rattle.std.specs.Prelude.{◌≡◌, ◌<◌, length};
+ghost use Rattle.std.specs.Prelude.{◌≡◌, ◌<◌, ◌⊎◌, ◌↔◌, IsTrue, length};
 ghost use Rattle.mask_rules.specs.Clashes.{ClashesBeside, ClashesNow, ClashesOf, IsClash, pair_pixel};
 ghost use Rattle.mask_rules.specs.Found.{IsFound, pair_found};
 ghost use Rattle.mask_rules.specs.Limits.{IsRules, IsStretchWithin};
@@ -24,6 +24,13 @@ fn pair_pixel(clash: Clash, vertical: bool, mine: Stretch, other: Stretch) -> Op
     earlier(first, second)
 }
 
+/// Whether the stretches have the inside on the same side, or the other is empty, so that they clash in no way.
+fn is_apart(mine: Stretch, other: Stretch) -> bool
+    ensures { IsTrue result ↔ ((mine.opens ≡ other.opens) ⊎ (other.low ≡ other.high)) }
+{
+    mine.opens == other.opens || other.low == other.high
+}
+
 /// The first pixel of each kind of clash of a stretch with that of fragment `k`.
 fn pair_found(
     outline: &Placement,
@@ -39,6 +46,9 @@ fn pair_found(
     ensures { result ≡ pair_found rules.now vertical mine (stretch_at outline.now.fragments.now (line_of outline.now) vertical k) }
 {
     let other = stretch(outline, vertical, k);
+    if is_apart(mine, other) {
+        return none_found();
+    }
     let narrow = Clash::Narrow {
         covered: true,
         least: rules.width,
