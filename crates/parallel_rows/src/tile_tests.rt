@@ -107,6 +107,8 @@ fn tiles_of_most_fragments(rt: HostRuntime) -> Result<(), Fail> {
     let target = squares(rt.alloc())?;
     let scene = Scene::new(rt.alloc(), &target).expect(&rt, "a scene");
     assert_eq!(rt; scene.fragments.count(), 32768);
+
+    // Half of the columns lie across two tiles, and half of the rows: a square's fragments are in 1, 2 or 3 tiles, 2 on average.
     assert_eq!(rt; scene.index.count(), 16384);
     assert_eq!(rt; reached(&scene, &rect(0, 0, 4000, 2000)), 16384);
     Ok(())
