@@ -1,7 +1,9 @@
 -- Numbers that stay small while a short list of rectangles is added.
-use Rattle.std.proofs.Common.{◌≡◌, ℕ, suc, ◌+◌, ◌*◌, ◌^◌, ◌<◌, ◌≤◌, ℤ, pos, neg_ℤ, ◌+ℤ◌, ◌-ℤ◌, ◌*ℤ◌, unsigned_abs, Bool, if◌then◌else◌, List, [], ◌∷◌, All, length, get_or, take, ap, arith, mul-le-mul, mul_assoc}
+use Rattle.std.proofs.Common.{◌≡◌, ℕ, suc, ◌+◌, ◌*◌, ◌^◌, ◌<◌, ◌≤◌, ℤ, pos, neg_ℤ, ◌+ℤ◌, ◌-ℤ◌, ◌*ℤ◌, unsigned_abs, Bool, if◌then◌else◌, List, [], ◌∷◌, All, length, get_or, replicate, take, arith, mul-le-mul, mul_assoc, ⊎_elim}
+use Rattle.std.proofs.Math.ListN.{get_or-eq_default}
+use Rattle.std.proofs.lemmas.Bool.{cases_lt}
 use Rattle.std.proofs.lemmas.Int.{ints, unsigned_abs-mul}
-use Rattle.std.proofs.lemmas.List.{length-take}
+use Rattle.std.proofs.lemmas.List.{get_or-replicate, length-replicate, length-take}
 use Rattle.std.proofs.lemmas.List.Elements.{All-take}
 use Rattle.opc_base.specs.Lanes.{lane_count, lane_entry, part_of_lane}
 use Rattle.opc_base.specs.Optics.{KeepsBounds}
@@ -54,3 +56,10 @@ stays_small s list sums bounds small all few m q i k lane upto is in_samples in_
   where
     sum_small : (a b : ℤ) → unsigned_abs a ≤ 2 ^ 61 → unsigned_abs b ≤ 2 ^ 47 → unsigned_abs (a +ℤ b) ≤ 2 ^ 62
     sum_small a b first second = omega (arith, ints)
+
+-- sums of 0 are small
+pub zeros_small : (n i : ℕ) (sums : List ℤ) → sums ≡ replicate n (pos 0) → unsigned_abs (get_or sums i (pos 0)) ≤ 2 ^ 61
+zeros_small n i sums is = ⊎_elim
+    (λ below. rw (is, get_or-replicate n i (pos 0) (pos 0) below) (omega arith))
+    (λ past. rw (is, get_or-eq_default (replicate n (pos 0)) (pos 0) {n = i} (omega (arith, past, length-replicate n (pos 0)))) (omega arith))
+    (cases_lt i n)

@@ -6,6 +6,8 @@
 
 #[cfg(test)]
 mod part_tests;
+#[cfg(test)]
+mod plain_tests;
 pub mod scene;
 pub mod sums;
 #[cfg(test)]

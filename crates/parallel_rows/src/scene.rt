@@ -1,6 +1,6 @@
 //! Fragments, tables and tiles of a target.
 
-ghost use Rattle.std.specs.Prelude.{◌≡◌, true, All, IfOk, IfSome, OnOk};
+ghost use Rattle.std.specs.Prelude.{◌≡◌, true, All, IfOk, IfSome, OnOk, length};
 ghost use Rattle.opc_base.specs.Canonical.{IsSolid};
 ghost use Rattle.opc_base.specs.Cover.{IsPlaced};
 ghost use Rattle.opc_base.specs.Optics.{KeepsTwoTransmissions};
@@ -21,29 +21,45 @@ use tiles::TileIndex;
 /// So many samples of a fragment lie to each side.
 pub const SAMPLES: i32 = 2;
 
-/// Fragments in tiles, and the tables of a kernel of reach 1 whose nine entries are 1.
+/// Fragments in tiles, and a kernel of reach 1 with its tables.
 #[derive(Drop)]
 pub struct Scene {
     pub fragments: Fragments,
+    pub set: KernelSet,
     pub tables: Tables,
     pub index: TileIndex,
 }
 
 impl Scene {
     /// The scene of these rectangles in tiles of 16 pixels, or `None` where they touch at a corner or memory is wanting.
+    /// The nine entries of the kernel are 1.
     pub fn new(alloc: Global, rects: &[Rect]) -> Option<Scene>
         requires solid { All IsSolid rects.now }
         requires within { All (IsRectWithin 1048000) rects.now }
         ensures { IfSome result IsScene }
     {
+        Self::with_kernel(alloc, rects, &[1; 9], 0)
+    }
+
+    /// The same, of a kernel whose entries have these real parts, up to 127, each beside the same imaginary part.
+    pub fn with_kernel(alloc: Global, rects: &[Rect], reals: &[u8], im: u8) -> Option<Scene>
+        requires solid { All IsSolid rects.now }
+        requires within { All (IsRectWithin 1048000) rects.now }
+        requires nine { length reals.now ≡ 9 }
+        ensures { IfSome result IsScene }
+    {
         let fragments = fragments_of(alloc, rects)?;
-        let tables = tables_of(alloc)?;
+        let Ok(set) = kernel_set(alloc, reals, im) else {
+            return None;
+        };
+        let tables = tables_of(alloc, &set)?;
         let halo = tables.reach() + SAMPLES;
         let Ok(index) = TileIndex::build(alloc, &fragments, 16, halo) else {
             return None;
         };
         Some(Scene {
             fragments,
+            set,
             tables,
             index,
         })
@@ -113,14 +129,19 @@ fn add(alloc: Global, outlines: &mut Vec<Outline>, rect: Rect) -> Result<(), NoM
     Ok(())
 }
 
-/// A kernel of reach 1 and weight 1 with nine entries 1.
-fn kernel_set(alloc: Global) -> Result<KernelSet, NoMemory>
+/// A kernel of reach 1 and weight 1 with these real parts, up to 127, each beside the same imaginary part.
+fn kernel_set(alloc: Global, reals: &[u8], im: u8) -> Result<KernelSet, NoMemory>
+    requires nine { length reals.now ≡ 9 }
     ensures bounds { IfOk result KeepsTwoTransmissions }
     ensures reach { IfOk result (λ set. set.reach ≡ 1) }
+    ensures one { IfOk result (λ set. length set.kernels ≡ 1) }
 {
     let mut entries = Vec::new(alloc);
-    for _entry in 0..9usize {
-        entries.push(Entry { re: 1, im: 0 })?;
+    for re in reals {
+        entries.push(Entry {
+            re: i16::from(*re % 128),
+            im: i16::from(im % 128),
+        })?;
     }
     let mut kernels = Vec::new(alloc);
     kernels.push(Kernel {
@@ -136,13 +157,13 @@ fn kernel_set(alloc: Global) -> Result<KernelSet, NoMemory>
 }
 
 /// The tables of that kernel.
-fn tables_of(alloc: Global) -> Option<Tables>
-    ensures { IfSome result (λ tables. tables.reach ≡ 1) }
+fn tables_of(alloc: Global, set: &KernelSet) -> Option<Tables>
+    requires bounds { KeepsTwoTransmissions set.now }
+    requires reach { set.now.reach ≡ 1 }
+    ensures set { IfSome result (λ tables. tables ≡ set.now) }
+    ensures reach { IfSome result (λ tables. tables.reach ≡ 1) }
 {
-    let Ok(set) = kernel_set(alloc) else {
-        return None;
-    };
-    let Ok(tables) = Tables::build(alloc, &set) else {
+    let Ok(tables) = Tables::build(alloc, set) else {
         return None;
     };
     Some(tables)

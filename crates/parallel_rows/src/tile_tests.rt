@@ -1,7 +1,12 @@
 //! Tiles that rectangles reach.
 
+ghost use Rattle.std.specs.Prelude.{All, IfOk};
+ghost use Rattle.opc_base.specs.Canonical.{IsSolid};
+ghost use Rattle.opc_base.specs.Plane.{IsRectWithin};
+
 use crate::scene::Scene;
-use opc_base::Rect;
+use opc_base::{NoMemory, Rect};
+use std::alloc::Global;
 use std::test::Fail;
 
 const NEAR: Rect = Rect {
@@ -67,5 +72,44 @@ fn tiles_of_negative_numbers(rt: HostRuntime) -> Result<(), Fail> {
     }
     assert_eq!(rt; reached(&scene, &rect(-14, -20, -13, -19)), 1);
     assert_eq!(rt; reached(&scene, &rect(-13, -20, -12, -19)), 0);
+    Ok(())
+}
+
+/// A square of ten by ten pixels, 30 pixels apart from the next in its row and in its column.
+fn square(column: u8, row: u8) -> Rect
+    ensures solid { IsSolid result }
+    ensures within { IsRectWithin 1048000 result }
+{
+    let x0 = 30 * i32::from(column);
+    let y0 = 30 * i32::from(row);
+    Rect {
+        x0,
+        y0,
+        x1: x0 + 10,
+        y1: y0 + 10,
+    }
+}
+
+/// 64 rows of 128 squares.
+fn squares(alloc: Global) -> Result<Vec<Rect>, NoMemory>
+    ensures solid { IfOk result (λ rects. All IsSolid rects.items) }
+    ensures within { IfOk result (λ rects. All (IsRectWithin 1048000) rects.items) }
+{
+    let mut rects = Vec::new(alloc);
+    for number in 0..8192u16 {
+        rects.push(square((number % 128) as u8, (number / 128) as u8))?;
+    }
+    Ok(rects)
+}
+
+#[test]
+fn tiles_of_most_fragments(rt: HostRuntime) -> Result<(), Fail> {
+    let target = squares(rt.alloc())?;
+    let scene = Scene::new(rt.alloc(), &target).expect(&rt, "a scene");
+    assert_eq!(rt; scene.fragments.count(), 32768);
+
+    // Half of the columns lie across two tiles, and half of the rows: a square's fragments are in 1, 2 or 3 tiles, 2 on average.
+    assert_eq!(rt; scene.index.count(), 16384);
+    assert_eq!(rt; reached(&scene, &rect(0, 0, 4000, 2000)), 16384);
     Ok(())
 }
