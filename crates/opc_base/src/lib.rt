@@ -34,6 +34,7 @@ mod product;
 mod rects;
 mod region;
 mod rules;
+mod shared;
 mod steps;
 mod text;
 mod watch;
