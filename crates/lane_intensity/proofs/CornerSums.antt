@@ -1,5 +1,5 @@
 -- What the corners of a list add to a lane, one by one.
-use Rattle.std.proofs.Common.{◌≡◌, ℕ, ◌+◌, ◌*◌, ◌^◌, ◌<◌, ◌≤◌, ℤ, pos, ◌+ℤ◌, ◌*ℤ◌, unsigned_abs, List, [], length, get_or, take, ap, ◌∙◌, sym, arith, mul-le-mul, SFits, w64, to_z, of_z, to_z-of_z}
+use Rattle.std.proofs.Common.{◌≡◌, ℕ, ◌+◌, ◌*◌, ◌^◌, ◌<◌, ◌≤◌, ℤ, pos, ◌+ℤ◌, ◌*ℤ◌, unsigned_abs, List, [], length, get_or, take, sym, arith, mul-le-mul, SFits, w64, to_z, of_z, to_z-of_z}
 use Rattle.std.proofs.lemmas.Int.{fits_signed_mul, ints, unsigned_abs-mul}
 use Rattle.opc_base.specs.Changes.{RisesBy}
 use Rattle.opc_base.specs.Lanes.{AddUpNear, LanesAre, amplitude_of_lane, corners_change, ground_of_lane, lane_count, part_of_lane}

@@ -1,4 +1,4 @@
--- Lanes: amplitudes from the ground and the parts of sets, and bounds.
+-- Lanes: amplitudes from the ground and the parts of sets, what a move adds to them, and bounds.
 use Rattle.std.proofs.Common.{◌≡◌, ℕ, ◌+◌, ◌*◌, ◌/◌, ◌%◌, ◌^◌, ◌≤◌, ℤ, pos, ◌+ℤ◌, ◌-ℤ◌, ◌*ℤ◌, unsigned_abs, negsuc, nat_eq, Bool, true, false, not, ◌&&◌, ◌||◌, if◌then◌else◌, List, Option, Some, None, slice_get, neg_ℤ, refl, ap, ap₂, ◌∙◌, sym, arith, ⊎_elim, mul-le-mul, mul_assoc}
 use Rattle.std.proofs.lemmas.Bool.Decides.{Decides-int_eq}
 use Rattle.std.proofs.lemmas.Int.{ints}
