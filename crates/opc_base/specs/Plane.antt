@@ -1,4 +1,4 @@
--- Sets of pixels.
+-- Sets of pixels, and what a move does to one.
 use Rattle.std.specs.Prelude.{◌≡◌, ℕ, ◌≤◌, ◌≤ℤ◌, ℤ, pos, negsuc, int_le, int_lt, unsigned_abs, Bool, true, false, ◌&&◌, ◌||◌, not, List, if◌then◌else◌, IsTrue, IsFalse, AllPairs}
 use Rattle.std.specs.List.{list_any}
 use Rattle.opc_base.specs.declared.plane.Rect.{Rect}
