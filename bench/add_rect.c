@@ -1,6 +1,7 @@
 /* The loop of crates/bench_sums written by hand in C: adds rectangles to the lanes of a pixel, as many as the first word
  * says, and prints the same number. 16 kernels of reach 64 under two transmissions, and rectangles with sides of up to
- * 100 pixels round the pixel, all from the same numbers.
+ * 100 pixels round the pixel, all from the same numbers. With the word `set` it makes the kernels alone, and prints the
+ * real part of their last entry.
  */
 #include <stdint.h>
 #include <stdio.h>
@@ -19,7 +20,7 @@ static int next_number(int least, int count)
     return least + (int)(state >> 16) % count;
 }
 
-static int16_t entries[KERNELS][PLACES][PLACES][2];
+static int16_t entries[KERNELS][PLACES][PLACES][2], covered[2], uncovered[2];
 static int64_t table[WIDTH][WIDTH][LANES];
 static int64_t ground[LANES];
 
@@ -38,9 +39,8 @@ static int64_t product(const int16_t *a, const int16_t *b, int lane)
     return lane % 2 == 0 ? (int64_t)a[0] * b[0] - (int64_t)a[1] * b[1] : (int64_t)a[0] * b[1] + (int64_t)a[1] * b[0];
 }
 
-static void build(void)
+static void read_set(void)
 {
-    int16_t covered[2], uncovered[2], contrast[2];
     for (int kernel = 0; kernel < KERNELS; kernel++) {
         for (int row = 0; row < PLACES; row++)
             for (int column = 0; column < PLACES; column++)
@@ -49,8 +49,11 @@ static void build(void)
     }
     read_entry(covered, 8);
     read_entry(uncovered, 8);
-    contrast[0] = covered[0] - uncovered[0];
-    contrast[1] = covered[1] - uncovered[1];
+}
+
+static void build(void)
+{
+    int16_t contrast[2] = {covered[0] - uncovered[0], covered[1] - uncovered[1]};
     for (int row = 1; row < WIDTH; row++)
         for (int column = 1; column < WIDTH; column++)
             for (int lane = 0; lane < LANES; lane++) {
@@ -91,6 +94,11 @@ int main(int argc, char **argv)
     uint64_t sum = 0;
     reach = set_reach;
     lane_count = set_lanes;
+    read_set();
+    if (argc > 1 && strcmp(argv[1], "set") == 0) {
+        printf("%d\n", entries[KERNELS - 1][PLACES - 1][PLACES - 1][0]);
+        return 0;
+    }
     build();
     for (uint32_t turn = 0; turn < count; turn++) {
         int x0 = next_number(-100, 201), x1 = x0 + next_number(1, 100);

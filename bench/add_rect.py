@@ -5,7 +5,8 @@ usage: bench/add_rect.py [COUNT]
 
 Run `rt run` in crates/bench_sums first, which leaves the built program as crates/bench_sums/out/bench_sums. The loop in C,
 bench/add_rect.c, is compiled with $CC or cc for the processor that the kit builds for. Both programs print one number,
-which has to be the same. Run by hand; the gate never runs it.
+which has to be the same. The time of the tables is that of a run without rectangles, less that of a run which makes the
+kernels alone. Run by hand; the gate never runs it.
 """
 import os
 import resource
@@ -19,12 +20,12 @@ PROVED = os.path.join(HERE, "..", "crates", "bench_sums", "out", "bench_sums")
 RUNS = 5
 
 
-def run(program, count):
+def run(program, word):
     """The least wall time and processor time of a few runs, and what the program printed."""
     walls, users = [], []
     for _ in range(RUNS):
         user, start = resource.getrusage(resource.RUSAGE_CHILDREN).ru_utime, time.perf_counter()
-        done = subprocess.run([program, str(count)], check=True, capture_output=True, text=True)
+        done = subprocess.run([program, str(word)], check=True, capture_output=True, text=True)
         walls.append(time.perf_counter() - start)
         users.append(resource.getrusage(resource.RUSAGE_CHILDREN).ru_utime - user)
     return min(walls), min(users), done.stdout.strip()
@@ -38,11 +39,12 @@ def main():
         subprocess.run([compiler, "-O3", "-march=x86-64-v2", "-o", written, os.path.join(HERE, "add_rect.c")], check=True)
         each = []
         for name, program in (("proved", PROVED), ("C", written)):
+            kernels, _, _ = run(program, "set")
             tables, before, _ = run(program, 0)
             _, after, said = run(program, count)
             each.append((after - before, said))
-            print(f"{name}: start and tables {tables * 1e3:.1f} ms, {count} rectangles {(after - before) * 1e3:.0f} ms, "
-                  f"{(after - before) / count * 1e9:.1f} ns each, number {said}")
+            print(f"{name}: start and kernels {kernels * 1e3:.1f} ms, tables {(tables - kernels) * 1e3:.1f} ms, {count} rectangles "
+                  f"{(after - before) * 1e3:.0f} ms, {(after - before) / count * 1e9:.1f} ns each, number {said}")
     (proved, said), (by_hand, wanted) = each
     print(f"ratio {proved / by_hand:.2f}, the numbers are {'the same' if said == wanted else 'DIFFERENT'}")
 

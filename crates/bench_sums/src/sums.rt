@@ -10,6 +10,18 @@ use std::alloc::Global;
 use std::marker::Brand;
 use std::sync::ledger::{Blank, Ledger};
 
+/// The real part of the last entry of the kernels, for which no tables are built.
+pub fn last_entry(alloc: Global) -> Result<i64, NoMemory> {
+    let set = Numbers::new(1).set(alloc, 64, 16)?;
+    let Some(kernel) = set.kernels.as_slice().last() else {
+        return Ok(0);
+    };
+    match kernel.entries.as_slice().last() {
+        Some(entry) => Ok(i64::from(entry.re)),
+        None => Ok(0),
+    }
+}
+
 /// The sum, wrapping, of one lane in turn after each of so many rectangles was added to the ground.
 pub fn sum_of_sums(alloc: Global, count: u32) -> Result<i64, NoMemory> {
     let mut numbers = Numbers::new(1);

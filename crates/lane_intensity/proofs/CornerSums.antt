@@ -1,5 +1,5 @@
 -- What the corners of a list add to a lane, one by one.
-use Rattle.std.proofs.Common.{◌≡◌, ℕ, ◌+◌, ◌*◌, ◌^◌, ◌<◌, ◌≤◌, ℤ, pos, ◌+ℤ◌, ◌*ℤ◌, unsigned_abs, List, [], length, get_or, take, ap, ◌∙◌, sym, arith, mul-le-mul, SFits, w64, to_z, of_z, to_z-of_z}
+use Rattle.std.proofs.Common.{◌≡◌, ℕ, ◌+◌, ◌*◌, ◌^◌, ◌<◌, ◌≤◌, ℤ, pos, ◌+ℤ◌, ◌*ℤ◌, unsigned_abs, List, [], length, get_or, take, sym, arith, mul-le-mul, SFits, w64, to_z, of_z, to_z-of_z}
 use Rattle.std.proofs.lemmas.Int.{fits_signed_mul, ints, unsigned_abs-mul}
 use Rattle.opc_base.specs.Changes.{RisesBy}
 use Rattle.opc_base.specs.Lanes.{AddUpNear, LanesAre, amplitude_of_lane, corners_change, ground_of_lane, lane_count, part_of_lane}
@@ -7,7 +7,7 @@ use Rattle.opc_base.specs.Plane.{PixelSet}
 use Rattle.opc_base.specs.declared.kernels.KernelSet.{KernelSet}
 use Rattle.opc_base.specs.declared.plane.Corner.{Corner}
 use Rattle.opc_base.proofs.ChangeLaws.{RisesBy-add, RisesBy-none, RisesBy-same}
-use Rattle.opc_base.proofs.LaneLaws.{amplitude_of_lane-part, part_of_lane-corners}
+use Rattle.opc_base.proofs.LaneLaws.{LanesAre-rise, amplitude_of_lane-part, part_of_lane-corners}
 use Rattle.opc_base.proofs.SumLaws.{sum_each_start, sum_each-more}
 use Rattle.lane_intensity.specs.Differences.{corner_change}
 
@@ -47,13 +47,7 @@ corners_part set pixels corners x y xs ys near =
 -- from the ground on, its amplitudes
 pub corners_amplitudes : (set : KernelSet) (pixels : PixelSet) (x y : ℤ) (xs ys : List ℤ) → LanesAre set (ground_of_lane set) xs →
     RisesBy (part_of_lane set pixels x y) 0 xs ys → LanesAre set (amplitude_of_lane set pixels x y) ys
-corners_amplitudes set pixels x y xs ys from rises = record {
-  count = rises.same_length ∙ from.count;
-  each = λ lane below.
-      let place : 0 + lane ≡ lane = omega arith in
-      rw place at (rises.each lane (omega (arith, from.count))) ∙ ap (λ g. g +ℤ part_of_lane set pixels x y lane) (from.each lane below)
-      ∙ sym (amplitude_of_lane-part set pixels x y lane);
-}
+corners_amplitudes set pixels x y xs ys = LanesAre-rise set _ _ _ xs ys (λ lane. amplitude_of_lane-part set pixels x y lane)
 
 -- a sign times a block is small
 pub times-small : (times block : ℤ) → unsigned_abs times ≤ 2 → unsigned_abs block ≤ 2 ^ 27 → unsigned_abs (times *ℤ block) ≤ 2 * 2 ^ 27

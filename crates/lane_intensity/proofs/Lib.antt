@@ -1,4 +1,3 @@
-mod AmplitudeLaws
 mod CornerSums
 mod PowerSums
 mod RectLaws

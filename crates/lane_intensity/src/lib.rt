@@ -10,9 +10,9 @@
 //! let intensity = intensity(&acc, &weights);
 //! ```
 //!
-//! The clauses that matter: `add_rect` adds to each lane what the rectangle's pixels give, in every position; from the
-//! ground on, `add_corners` gives the amplitudes of each set that the corners add up to; and `intensity` of amplitudes is
-//! the definition's intensity.
+//! The clauses that matter: `add_rect` adds to each lane what the rectangle's pixels give, in every position, and so takes
+//! the amplitudes of a mask to those of the mask after a move; from the ground on, `add_corners` gives the amplitudes of
+//! each set that the corners add up to; and `intensity` of amplitudes is the definition's intensity.
 #![tactic(auto)]
 
 mod corner_sums;

@@ -2,8 +2,8 @@
 
 ghost use Rattle.std.specs.Prelude.{◌≡◌, ℕ, ◌+◌, ◌^◌, ◌<◌, ◌≤◌, pos, length, slice_index_or, unsigned_abs};
 ghost use Rattle.opc_base.specs.Changes.{RisesBetween, RisesBy};
-ghost use Rattle.opc_base.specs.Lanes.{lane_count, rect_change};
-ghost use Rattle.opc_base.specs.Plane.{IsOrdered, IsPixWithin, IsRectWithin};
+ghost use Rattle.opc_base.specs.Lanes.{LanesAre, amplitude_of_lane, lane_count, rect_change};
+ghost use Rattle.opc_base.specs.Plane.{IsOrdered, IsPixWithin, IsRectWithin, IsSweep, PixelSet};
 ghost use Rattle.lane_intensity.specs.Differences.{AreLanes, four_lanes};
 
 use opc_base::{Pix, Rect, Steps};
@@ -29,6 +29,9 @@ pub fn add_rect<L: Ledger>(
     requires rect { IsRectWithin 1050000 rect }
     requires at { IsPixWithin 1050000 at }
     ensures rises { RisesBy (rect_change tables.now rect sign at.x at.y) 0 acc.old acc.new }
+
+    // from the amplitudes of a mask to those of the mask to which the rectangle is added, or from which it is taken
+    ensures amplitudes { (before after : PixelSet) → IsSweep (record { rect = rect; sign = sign }) before after → LanesAre tables.now (amplitude_of_lane tables.now before at.x at.y) acc.old → LanesAre tables.now (amplitude_of_lane tables.now after at.x at.y) acc.new }
     ensures cost { steps.new ≡ steps.old + 4 }
 {
     let low_left = tables.block(at.x - rect.x0, at.y - rect.y0, steps);

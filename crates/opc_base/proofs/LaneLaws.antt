@@ -1,18 +1,22 @@
--- Lanes: amplitudes from the ground and the parts of sets, and bounds.
-use Rattle.std.proofs.Common.{◌≡◌, ℕ, ◌+◌, ◌*◌, ◌/◌, ◌%◌, ◌^◌, ◌≤◌, ℤ, pos, ◌+ℤ◌, ◌-ℤ◌, ◌*ℤ◌, unsigned_abs, nat_eq, Bool, true, false, if◌then◌else◌, List, Option, Some, None, slice_get, neg_ℤ, refl, ap, ap₂, ◌∙◌, sym, arith, ⊎_elim, mul-le-mul, mul_assoc}
+-- Lanes: amplitudes from the ground and the parts of sets, what a move adds to them, and bounds.
+use Rattle.std.proofs.Common.{◌≡◌, ℕ, ◌+◌, ◌*◌, ◌/◌, ◌%◌, ◌^◌, ◌≤◌, ℤ, pos, ◌+ℤ◌, ◌-ℤ◌, ◌*ℤ◌, unsigned_abs, negsuc, nat_eq, Bool, true, false, not, ◌&&◌, ◌||◌, if◌then◌else◌, List, Option, Some, None, slice_get, neg_ℤ, refl, ap, ap₂, ◌∙◌, sym, arith, ⊎_elim, mul-le-mul, mul_assoc}
+use Rattle.std.proofs.lemmas.Bool.Decides.{Decides-int_eq}
 use Rattle.std.proofs.lemmas.Int.{ints}
 use Rattle.std.proofs.lemmas.Option.{get_or_from_slice_get, slice_get_within}
-use Rattle.opc_base.specs.Lanes.{AddUpNear, amplitude_of_lane, block_of_lane, contrast, corners_change, entries_of_lane, entries_or_none, ground_of_lane, lane_entry, part_of_lane, passed_in_lane, product_of_lane}
-use Rattle.opc_base.specs.Optics.{AreKernelsWithin, IsEntryWithin, KeepsBounds, KeepsOneTransmission, KeepsTwoTransmissions, amplitude_im, amplitude_re, entry_at, product_im, product_re}
-use Rattle.opc_base.specs.Plane.{PixelSet}
+use Rattle.std.specs.Ordering.{int_eq}
+use Rattle.opc_base.specs.Changes.{RisesBy}
+use Rattle.opc_base.specs.Lanes.{AddUpNear, LanesAre, amplitude_of_lane, block_of_lane, contrast, corners_change, entries_of_lane, entries_or_none, ground_of_lane, lane_entry, part_of_lane, passed_in_lane, product_of_lane, rect_change}
+use Rattle.opc_base.specs.Optics.{AreKernelsWithin, IsEntryWithin, KeepsBounds, KeepsOneTransmission, KeepsTwoTransmissions, amplitude_im, amplitude_re, entry_at, passes, product_im, product_re}
+use Rattle.opc_base.specs.Plane.{IsSweep, PixelSet, rect_cover}
 use Rattle.opc_base.specs.declared.kernels.Entry.{Entry}
 use Rattle.opc_base.specs.declared.kernels.Kernel.{Kernel}
 use Rattle.opc_base.specs.declared.kernels.KernelSet.{KernelSet}
+use Rattle.opc_base.specs.declared.moves.Swept.{Swept}
 use Rattle.opc_base.specs.declared.plane.Corner.{Corner}
-use Rattle.opc_base.proofs.SumLaws.{mul-add, sum_window-add, sum_window-same, sum_range-bound}
+use Rattle.opc_base.proofs.SumLaws.{mul-add, sum_window-add, sum_window-same, sum_window-scale, sum_range-bound}
 use Rattle.opc_base.proofs.ClampLaws.{block-bound}
 use Rattle.opc_base.proofs.CornerLaws.{seen_sum-corners}
-use Rattle.opc_base.proofs.OpticsLaws.{AreSmall, entry_of_kernel-within, product-nothing, product-one, product-within, reach_within}
+use Rattle.opc_base.proofs.OpticsLaws.{AreSmall, entry_of_kernel-within, product-one, product-within, product_within, reach_within}
 
 -- ---- products with a difference
 pub mul-sub : (a b c : ℤ) → a *ℤ (b -ℤ c) ≡ a *ℤ b -ℤ a *ℤ c
@@ -58,10 +62,56 @@ amplitude_of_lane-part set pixels x y lane =
     product_of_lane-passed lane (entry_at set.reach (entries_of_lane set lane) u v) set.covered set.uncovered (pixels (x -ℤ u) (y -ℤ v)))
     ∙ sum_window-add set.reach (passed_in_lane set lane set.uncovered) (λ u v. if pixels (x -ℤ u) (y -ℤ v) then lane_entry set lane u v else pos 0)
 
+-- ---- a move
+-- what a place of the kernel adds before and after a move
+swept_share : (s : Swept) (old new : PixelSet) (x y e : ℤ) → unsigned_abs s.sign ≡ 1 → IsSweep s old new →
+    (if new x y then e else pos 0) ≡ (if old x y then e else pos 0) +ℤ s.sign *ℤ (if rect_cover s.rect x y then e else pos 0)
+swept_share s old new x y e one move = either (int_eq s.sign (pos 1)) refl
+  where
+    grown : (covered was : Bool) → (covered ≡ true → was ≡ false) →
+        (if was || covered then e else pos 0) ≡ (if was then e else pos 0) +ℤ pos 1 *ℤ (if covered then e else pos 0)
+    grown covered was free = grind (arith, ints)
+
+    shrunk : (covered was : Bool) → (covered ≡ true → was ≡ true) →
+        (if was && not covered then e else pos 0) ≡ (if was then e else pos 0) +ℤ negsuc 0 *ℤ (if covered then e else pos 0)
+    shrunk covered was full = grind (arith, ints)
+
+    either : (b : Bool) → int_eq s.sign (pos 1) ≡ b →
+        (if new x y then e else pos 0) ≡ (if old x y then e else pos 0) +ℤ s.sign *ℤ (if rect_cover s.rect x y then e else pos 0)
+    either true is =
+        let plus : s.sign ≡ pos 1 = (Decides-int_eq s.sign (pos 1)).0 is in
+        rw (plus, move.adds plus x y) (grown (rect_cover s.rect x y) (old x y) (move.free plus x y))
+    either false is =
+        let minus : s.sign ≡ negsuc 0 = grind (arith, ints) in
+        rw (minus, move.takes minus x y) (shrunk (rect_cover s.rect x y) (old x y) (move.covered minus x y))
+
+-- the amplitude of the new set is that of the old one, and the sign times what the pixels of the rectangle add
+pub amplitude_of_lane-sweep : (set : KernelSet) (s : Swept) (old new : PixelSet) (x y : ℤ) (lane : ℕ) → unsigned_abs s.sign ≡ 1 → IsSweep s old new →
+    amplitude_of_lane set new x y lane ≡ amplitude_of_lane set old x y lane +ℤ rect_change set s.rect s.sign x y lane
+amplitude_of_lane-sweep set s old new x y lane one move =
+    let seen : PixelSet → ℤ → ℤ → ℤ = λ pixels u v. if pixels (x -ℤ u) (y -ℤ v) then lane_entry set lane u v else pos 0 in
+    let parts : part_of_lane set new x y lane ≡ part_of_lane set old x y lane +ℤ rect_change set s.rect s.sign x y lane =
+    sum_window-same set.reach (seen new) (λ u v. seen old u v +ℤ s.sign *ℤ seen (rect_cover s.rect) u v) (λ u v.
+    swept_share s old new (x -ℤ u) (y -ℤ v) (lane_entry set lane u v) one move)
+    ∙ sum_window-add set.reach (seen old) (λ u v. s.sign *ℤ seen (rect_cover s.rect) u v)
+    ∙ ap (λ t. part_of_lane set old x y lane +ℤ t) (sum_window-scale set.reach s.sign (seen (rect_cover s.rect))) in
+    omega (arith, ints, amplitude_of_lane-part set new x y lane, amplitude_of_lane-part set old x y lane, parts)
+
 -- the signed sum of the blocks at the corners of a set is what its pixels add
 pub part_of_lane-corners : (set : KernelSet) (pixels : PixelSet) (corners : List Corner) (x y : ℤ) (lane : ℕ) → AddUpNear set.reach corners pixels x y →
     corners_change set corners x y lane ≡ part_of_lane set pixels x y lane
 part_of_lane-corners set pixels corners x y lane near = sym (seen_sum-corners set.reach (lane_entry set lane) pixels corners x y near)
+
+-- ---- lists of lanes
+-- numbers that rise to the sum at each lane
+pub LanesAre-rise : (set : KernelSet) (f change g : ℕ → ℤ) (xs ys : List ℤ) → ((lane : ℕ) → g lane ≡ f lane +ℤ change lane) →
+    LanesAre set f xs → RisesBy change 0 xs ys → LanesAre set g ys
+LanesAre-rise set f change g xs ys sum are rises = record {
+  count = rises.same_length ∙ are.count;
+  each = λ lane below.
+      let place : 0 + lane ≡ lane = omega arith in
+      rw place at (rises.each lane (omega (arith, are.count))) ∙ ap (λ a. a +ℤ change lane) (are.each lane below) ∙ sym (sum lane);
+}
 
 -- ---- the two lanes of a kernel
 even_lane : (j : ℕ) → ((2 * j) % 2 ≡ 0) × ((2 * j) / 2 ≡ j)
@@ -97,14 +147,26 @@ product_of_lane-within lane a b n small = either (nat_eq (lane % 2) 0) (product_
     either true x y fits_x fits_y = fits_x
     either false x y fits_x fits_y = fits_y
 
+-- what a pixel gives
+passed-within : (set : KernelSet) (lane : ℕ) (pixels : PixelSet) (px py u v : ℤ) → KeepsBounds set →
+    unsigned_abs (passed_in_lane set lane (passes set pixels px py) u v) ≤ 2048
+passed-within set lane pixels px py u v bounds =
+    product_of_lane-within lane (entry_at set.reach (entries_of_lane set lane) u v) (passes set pixels px py) 2048
+    (of_read (slice_get set.kernels (lane / 2)) (λ kernel is. product_within set kernel pixels u v px py bounds
+    (lane / 2, slice_get_within set.kernels (lane / 2) kernel is, get_or_from_slice_get set.kernels (lane / 2) kernel kernel is)))
+  where
+    of_read : (o : Option Kernel) → ((kernel : Kernel) → o ≡ Some kernel → AreSmall 2048 (entry_at set.reach kernel.entries u v) (passes set pixels px py)) →
+        AreSmall 2048 (entry_at set.reach (entries_or_none o) u v) (passes set pixels px py)
+    of_read None each = (omega (arith, ints), omega (arith, ints))
+    of_read (Some kernel) each = each kernel refl
+
+-- no pixel is covered
+abbrev bare : PixelSet
+bare x y = false
+
 -- what an uncovered pixel gives
 pub uncovered-within : (set : KernelSet) (lane : ℕ) (u v : ℤ) → KeepsBounds set → unsigned_abs (passed_in_lane set lane set.uncovered u v) ≤ 2048
-uncovered-within set lane u v bounds = ⊎_elim
-    (λ one. product_of_lane-within lane (entry_at set.reach (entries_of_lane set lane) u v) set.uncovered 2048
-    (product-nothing (entry_at set.reach (entries_of_lane set lane) u v) set.uncovered one.uncovered))
-    (λ two. product_of_lane-within lane (entry_at set.reach (entries_of_lane set lane) u v) set.uncovered 2048
-    (product-within (entry_at set.reach (entries_of_lane set lane) u v) set.uncovered 128 8 (entry_of_lane-within set 128 lane u v two.kernels) two.uncovered))
-    bounds
+uncovered-within set lane u v bounds = passed-within set lane bare (pos 0) (pos 0) u v bounds
 
 -- what a covered pixel gives beyond that
 pub lane_entry-within : (set : KernelSet) (lane : ℕ) (u v : ℤ) → KeepsBounds set → unsigned_abs (lane_entry set lane u v) ≤ 4096
@@ -143,8 +205,13 @@ block_of_lane-bound set lane dx dy bounds =
     (block-bound set.reach (lane_entry set lane) dx dy 4096 (λ u v. lane_entry-within set lane u v bounds)) in
     omega arith
 
-pub ground_of_lane-bound : (set : KernelSet) (lane : ℕ) → KeepsBounds set → unsigned_abs (ground_of_lane set lane) ≤ 34080768
-ground_of_lane-bound set lane bounds =
+-- one part of an amplitude is at most 129 x 129 x 2048
+pub amplitude_of_lane-bound : (set : KernelSet) (pixels : PixelSet) (x y : ℤ) (lane : ℕ) → KeepsBounds set →
+    unsigned_abs (amplitude_of_lane set pixels x y lane) ≤ 34080768
+amplitude_of_lane-bound set pixels x y lane bounds =
     widest set.reach 2048 _ (reach_within set bounds)
     (sum_range-bound _ (neg_ℤ (pos set.reach)) (2 * set.reach + 1) (2048 * (2 * set.reach + 1)) (λ v.
-    sum_range-bound _ (neg_ℤ (pos set.reach)) (2 * set.reach + 1) 2048 (λ u. uncovered-within set lane u v bounds)))
+    sum_range-bound _ (neg_ℤ (pos set.reach)) (2 * set.reach + 1) 2048 (λ u. passed-within set lane pixels (x -ℤ u) (y -ℤ v) u v bounds)))
+
+pub ground_of_lane-bound : (set : KernelSet) (lane : ℕ) → KeepsBounds set → unsigned_abs (ground_of_lane set lane) ≤ 34080768
+ground_of_lane-bound set lane bounds = amplitude_of_lane-bound set bare (pos 0) (pos 0) lane bounds

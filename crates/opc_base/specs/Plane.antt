@@ -1,8 +1,9 @@
--- Sets of pixels.
-use Rattle.std.specs.Prelude.{ℕ, ◌≤◌, ◌≤ℤ◌, ℤ, pos, int_le, int_lt, unsigned_abs, Bool, ◌&&◌, not, List, if◌then◌else◌, IsTrue, IsFalse, AllPairs}
+-- Sets of pixels, and what a move does to one.
+use Rattle.std.specs.Prelude.{◌≡◌, ℕ, ◌≤◌, ◌≤ℤ◌, ℤ, pos, negsuc, int_le, int_lt, unsigned_abs, Bool, true, false, ◌&&◌, ◌||◌, not, List, if◌then◌else◌, IsTrue, IsFalse, AllPairs}
 use Rattle.std.specs.List.{list_any}
 use Rattle.opc_base.specs.declared.plane.Rect.{Rect}
 use Rattle.opc_base.specs.declared.plane.Pix.{Pix}
+use Rattle.opc_base.specs.declared.moves.Swept.{Swept}
 
 -- a set of pixels, as the test whether it has the pixel (x, y)
 abbrev pub PixelSet : Type 0
@@ -43,3 +44,11 @@ AreDisjoint a b = (x y : ℤ) → IsTrue (a x y) → IsFalse (b x y)
 -- no two rectangles of the list share a pixel
 abbrev pub HaveNoOverlap : List Rect → Type 0
 HaveNoOverlap rects = AllPairs (λ r s. AreDisjoint (rect_cover r) (rect_cover s)) rects
+
+-- What a move does to a set of pixels: with sign 1 it adds the rectangle, of which the set had no pixel, and with sign -1
+-- it takes the rectangle away, of which the set had each.
+pub record IsSweep (s : Swept) (old new : PixelSet) : Type 0 where
+  pub free : s.sign ≡ pos 1 → (x y : ℤ) → rect_cover s.rect x y ≡ true → old x y ≡ false
+  pub adds : s.sign ≡ pos 1 → (x y : ℤ) → new x y ≡ (old x y || rect_cover s.rect x y)
+  pub covered : s.sign ≡ negsuc 0 → (x y : ℤ) → rect_cover s.rect x y ≡ true → old x y ≡ true
+  pub takes : s.sign ≡ negsuc 0 → (x y : ℤ) → new x y ≡ (old x y && not (rect_cover s.rect x y))

@@ -9,7 +9,8 @@
 //! The definitions stand in `specs/`, in this order:
 //!
 //! - `Sums`: sums of integers;
-//! - `Plane`, `Corners`, `Runs`, `Canonical`: sets of pixels, their signed corners, their canonical rectangles;
+//! - `Plane`, `Corners`, `Runs`, `Canonical`: sets of pixels and what a move does to one, their signed corners, their
+//!   canonical rectangles;
 //! - `Cover`, `Target`: what placed shapes cover;
 //! - `Optics`, `Blocks`, `Lanes`: the plain pixel sum, sums over blocks of a window, and the lanes of a set of kernels;
 //! - `Changes`: numbers of a slice that rise, each by what its place gives;
@@ -34,6 +35,7 @@ mod product;
 mod rects;
 mod region;
 mod rules;
+mod shared;
 mod steps;
 mod text;
 mod watch;

@@ -4,8 +4,8 @@ ghost use Rattle.std.specs.Prelude.{◌≡◌, ◌<◌, ◌≤◌};
 
 use crate::regions::rect;
 use crate::sets::{ALL, NOTHING, entries_of, set_of};
-use lane_intensity::{add_rect, intensity};
-use opc_base::{Entry, NoMemory, Pix, Steps};
+use lane_intensity::add_rect;
+use opc_base::{NoMemory, Pix, Steps};
 use prefix_tables::Tables;
 use std::alloc::Global;
 use std::marker::Brand;

@@ -48,6 +48,7 @@ fn is_within(x: i32, y: i32) -> bool
     x.unsigned_abs() <= 1_048_000 && y.unsigned_abs() <= 1_048_000
 }
 
+/// The rectangle between these corners.
 pub fn rect(x0: i32, y0: i32, x1: i32, y1: i32) -> Rect
     ensures { result ≡ record { x0 = x0; y0 = y0; x1 = x1; y1 = y1 } }
 {

@@ -1,7 +1,7 @@
 //! Numbers from a seed, and sets of kernels and rectangles of such numbers.
 
-ghost use Rattle.std.specs.Prelude.{◌+◌, ◌<◌, ◌≤◌, ◌+ℤ◌, ◌≤ℤ◌, ◌<ℤ◌, pos, unsigned_abs, IfOk};
-ghost use Rattle.opc_base.specs.Optics.{IsEntryWithin, IsKernelWithin, KeepsTwoTransmissions};
+ghost use Rattle.std.specs.Prelude.{◌≡◌, ◌+◌, ◌*◌, ◌<◌, ◌≤◌, ◌+ℤ◌, ◌≤ℤ◌, ◌<ℤ◌, pos, unsigned_abs, All, IfOk, length, sum_by};
+ghost use Rattle.opc_base.specs.Optics.{IsEntryWithin, IsKernelWithin, KeepsOneTransmission, KeepsTwoTransmissions};
 ghost use Rattle.opc_base.specs.Plane.{IsOrdered, IsPixWithin, IsRectWithin};
 
 use opc_base::{Entries, Entry, Kernel, KernelSet, Kernels, NoMemory, Pix, Rect};
@@ -40,11 +40,12 @@ impl Numbers {
     }
 
     /// A complex number whose parts are from `-most` to `most`.
-    pub fn entry(&mut self, most: u8) -> Entry
+    pub fn entry(&mut self, most: u16) -> Entry
+        requires { most ≤ 2048 }
         ensures { IsEntryWithin most result }
     {
-        let least = -i16::from(most);
-        let count = 2 * u16::from(most) + 1;
+        let least = -(most as i16);
+        let count = 2 * most + 1;
         Entry {
             re: self.next(least, count) as i16,
             im: self.next(least, count) as i16,
@@ -81,16 +82,17 @@ impl Numbers {
         Span { from, to }
     }
 
-    /// A kernel of a weight of 1 to 9.
-    fn kernel(&mut self, alloc: Global, reach: u16) -> Result<Kernel, NoMemory>
-        requires { reach ≤ 64 }
-        ensures within { IfOk result (IsKernelWithin reach 128) }
+    /// A kernel of a weight of 1 to 9, whose entries have parts up to `most`.
+    fn kernel(&mut self, alloc: Global, reach: u16, most: u16) -> Result<Kernel, NoMemory>
+        requires reach { reach ≤ 64 }
+        requires most { most ≤ 2048 }
+        ensures within { IfOk result (IsKernelWithin reach most) }
         ensures light { IfOk result (λ kernel. kernel.weight ≤ 9) }
     {
         let width = 2 * usize::from(reach) + 1;
         let mut entries = Vec::new(alloc);
         for _ in 0..width * width {
-            entries.push(self.entry(128))?;
+            entries.push(self.entry(most))?;
         }
         Ok(Kernel {
             weight: self.next(1, 9) as u16,
@@ -98,22 +100,55 @@ impl Numbers {
         })
     }
 
-    /// A set of so many such kernels under two transmissions.
+    /// So many such kernels.
+    fn kernels(
+        &mut self,
+        alloc: Global,
+        reach: u16,
+        count: u8,
+        most: u16,
+    ) -> Result<Kernels, NoMemory>
+        requires reach { reach ≤ 64 }
+        requires most { most ≤ 2048 }
+        ensures count { IfOk result (λ kernels. length kernels ≡ count) }
+        ensures weights { IfOk result (λ kernels. sum_by (λ k. k.weight) kernels ≤ 9 * count) }
+        ensures within { IfOk result (λ kernels. All (IsKernelWithin reach most) kernels) }
+    {
+        let mut kernels = Vec::new(alloc);
+        for _ in 0..count {
+            kernels.push(self.kernel(alloc, reach, most)?)?;
+        }
+        Ok(Kernels::from_vec(kernels))
+    }
+
+    /// A set of so many kernels under two transmissions.
     pub fn set(&mut self, alloc: Global, reach: u16, count: u8) -> Result<KernelSet, NoMemory>
         requires reach { reach ≤ 64 }
         requires some { 1 ≤ count }
         requires few { count ≤ 16 }
         ensures { IfOk result KeepsTwoTransmissions }
     {
-        let mut kernels = Vec::new(alloc);
-        for _ in 0..count {
-            kernels.push(self.kernel(alloc, reach)?)?;
-        }
+        let kernels = self.kernels(alloc, reach, count, 128)?;
         Ok(KernelSet {
             reach,
             covered: self.entry(8),
             uncovered: self.entry(8),
-            kernels: Kernels::from_vec(kernels),
+            kernels,
+        })
+    }
+
+    /// A set of so many kernels under one transmission: light passes through covered pixels alone.
+    pub fn dark_set(&mut self, alloc: Global, reach: u16, count: u8) -> Result<KernelSet, NoMemory>
+        requires reach { reach ≤ 64 }
+        requires some { 1 ≤ count }
+        requires few { count ≤ 16 }
+        ensures { IfOk result KeepsOneTransmission }
+    {
+        Ok(KernelSet {
+            reach,
+            covered: Entry { re: 1, im: 0 },
+            uncovered: Entry { re: 0, im: 0 },
+            kernels: self.kernels(alloc, reach, count, 2048)?,
         })
     }
 }

@@ -6,8 +6,10 @@ ghost use Rattle.opc_base.specs.Optics.{IsEntryWithin, IsKernelWithin, KeepsTwoT
 use opc_base::{Entries, Entry, Kernel, KernelSet, Kernels, NoMemory};
 use std::alloc::Global;
 
+/// The transmission that lets all light through.
 pub const ALL: Entry = Entry { re: 1, im: 0 };
 
+/// The transmission that lets no light through.
 pub const NOTHING: Entry = Entry { re: 0, im: 0 };
 
 /// Entries with these real parts, up to 127, each beside the same imaginary part.

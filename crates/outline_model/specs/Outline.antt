@@ -1,5 +1,5 @@
 -- The outline of a list of fragments, and the mask that it encloses.
-use Rattle.std.specs.Prelude.{◌≡◌, ◌≢◌, ℕ, zero, suc, ◌<◌, ℤ, pos, negsuc, ◌+ℤ◌, ◌-ℤ◌, neg_ℤ, Bool, true, false, not, ◌&&◌, ◌||◌, unsigned_abs, ◌/◌, if◌then◌else◌, List, length, get_or, int_le, int_lt}
+use Rattle.std.specs.Prelude.{◌≡◌, ◌≢◌, ℕ, zero, suc, ◌<◌, ℤ, pos, negsuc, ◌+ℤ◌, ◌-ℤ◌, neg_ℤ, Bool, true, false, not, unsigned_abs, ◌/◌, if◌then◌else◌, List, length, get_or, int_le, int_lt}
 use Rattle.std.specs.Int.{int_min, int_max}
 use Rattle.std.specs.Ordering.{int_eq}
 use Rattle.opc_base.specs.declared.plane.Side.{Side}
@@ -7,10 +7,10 @@ use Rattle.opc_base.specs.declared.plane.Side.TheVariants.{Left, Right, Down, Up
 use Rattle.outline_model.specs.declared.fragment.Join.{Join}
 use Rattle.outline_model.specs.declared.fragment.Join.TheVariants.{Cut, Corner}
 use Rattle.outline_model.specs.declared.fragment.Fragment.{Fragment}
-use Rattle.opc_base.specs.declared.moves.Swept.{Swept}
 use Rattle.opc_base.specs.declared.plane.Pix.{Pix}
 use Rattle.opc_base.specs.declared.plane.Rect.{Rect}
-use Rattle.opc_base.specs.Plane.{PixelSet, rect_cover}
+use Rattle.opc_base.specs.Plane.{rect_cover}
+pub use Rattle.opc_base.specs.Plane.{IsSweep}
 
 -- ---- a fragment at its offset
 
@@ -177,14 +177,6 @@ is_outward Up from to = int_lt from to
 abbrev pub swept_count : List Fragment → (ℕ → ℤ) → ℕ → ℤ → ℤ → ℤ → ℤ
 swept_count fs line i to x y =
     if rect_cover (swept fs line i to) x y then (if is_outward (side_of fs i) (line i) to then pos 1 else negsuc 0) else pos 0
-
--- What a move does to a set of pixels: with sign 1 it adds the rectangle, of which the set had no pixel, and with sign -1
--- it takes the rectangle away, of which the set had each.
-pub record IsSweep (s : Swept) (old new : PixelSet) : Type 0 where
-  pub free : s.sign ≡ pos 1 → (x y : ℤ) → rect_cover s.rect x y ≡ true → old x y ≡ false
-  pub adds : s.sign ≡ pos 1 → (x y : ℤ) → new x y ≡ (old x y || rect_cover s.rect x y)
-  pub covered : s.sign ≡ negsuc 0 → (x y : ℤ) → rect_cover s.rect x y ≡ true → old x y ≡ true
-  pub takes : s.sign ≡ negsuc 0 → (x y : ℤ) → new x y ≡ (old x y && not (rect_cover s.rect x y))
 
 -- two placements of the lines that differ at fragment i alone
 abbrev pub DiffersOnlyAt : ℕ → (ℕ → ℤ) → (ℕ → ℤ) → Type 0

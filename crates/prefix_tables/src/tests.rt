@@ -66,6 +66,8 @@ fn real_block(tables: &Tables, dx: i32, dy: i32) -> i64 {
     counted_block::<Brand>(tables, dx, dy, Blank::new(1))
 }
 
+fn is_shared<T: Send + Sync>(_value: &T) {}
+
 #[test]
 fn blocks_within_and_beyond_the_reach(rt: HostRuntime) -> Result<(), Fail> {
     let one = Entry { re: 1, im: 0 };
@@ -95,6 +97,7 @@ fn ground_of_two_transmissions(rt: HostRuntime) -> Result<(), Fail> {
     let uncovered = Entry { re: 0, im: 1 };
     let set = set_of(rt.alloc(), &[1; 9], covered, uncovered)?;
     let tables = tables_of(rt.alloc(), &set)?;
+    is_shared(&tables);
     assert_eq!(rt; tables.lanes(), 2);
     assert_eq!(rt; tables.reach(), 1);
     assert_eq!(rt; tables.ground(), [0, 9].as_slice());

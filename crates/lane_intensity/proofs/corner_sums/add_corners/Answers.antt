@@ -1,6 +1,6 @@
 use Rattle.std.proofs.Common.{◌≡◌, ◌+◌, ◌*◌, ◌^◌, ◌≤◌, pos, unsigned_abs, get_or, take, take_all, ◌∙◌, arith}
+use Rattle.opc_base.proofs.LaneLaws.{amplitude_of_lane-bound}
 use Rattle.lane_intensity.proofs.CornerSums.{corners_amplitudes, corners_part, corners_start, corners_step, small_step}
-use Rattle.lane_intensity.proofs.AmplitudeLaws.{amplitude_of_lane-bound}
 use Rattle.lane_intensity.proofs.corner_sums.add_corners.Goals as goal
 
 pub loop-corner-init : goal.loop-corner-init

@@ -3,7 +3,7 @@ use Rattle.std.proofs.lemmas.Int.{ints}
 use Rattle.opc_base.proofs.ChangeLaws.{RisesBy-same}
 use Rattle.opc_base.proofs.ClampLaws.{block-at}
 use Rattle.opc_base.specs.Lanes.{lane_count, lane_entry}
-use Rattle.lane_intensity.proofs.RectLaws.{inward, outward, rect_lane}
+use Rattle.lane_intensity.proofs.RectLaws.{inward, outward, rect_amplitudes, rect_lane}
 use Rattle.lane_intensity.proofs.rect_sums.add_rect.Goals as goal
 
 pub returns-then-sign-gt0-clause-rises : goal.returns-then-sign-gt0-clause-rises
@@ -39,3 +39,11 @@ returns-else-sign-gt0-clause-rises g c =
     (block-at set.reach (lane_entry set lane) _ _ _ _ _ (c.block-high_left.ensures.lanes.each lane in_lanes) (omega (arith, ints)) (omega (arith, ints)))
     (block-at set.reach (lane_entry set lane) _ _ _ _ _ (c.block-high_right.ensures.lanes.each lane in_lanes) (omega (arith, ints)) (omega (arith, ints))))))
     c.add_difference-else-sign-gt0.ensures
+
+pub returns-then-sign-gt0-clause-amplitudes : goal.returns-then-sign-gt0-clause-amplitudes
+returns-then-sign-gt0-clause-amplitudes g c before after move are =
+    rect_amplitudes c.args.tables.now _ before after c.args.at.x c.args.at.y _ _ c.requires.sign move are (returns-then-sign-gt0-clause-rises g c)
+
+pub returns-else-sign-gt0-clause-amplitudes : goal.returns-else-sign-gt0-clause-amplitudes
+returns-else-sign-gt0-clause-amplitudes g c before after move are =
+    rect_amplitudes c.args.tables.now _ before after c.args.at.x c.args.at.y _ _ c.requires.sign move are (returns-else-sign-gt0-clause-rises g c)
