@@ -5,10 +5,11 @@ use Rattle.std.proofs.lemmas.Int.{ints, clamps}
 use Rattle.std.proofs.lemmas.Bool.Decides.{Decides-int_eq}
 use Rattle.outline_model.specs.declared.fragment.Fragment.{Fragment}
 use Rattle.outline_model.specs.Outline.{IsOutline, vertical_piece, horizontal_piece, step, count, mask, total}
-use Rattle.outline_model.specs.Rules.{FallsOn, RisesOn, LeftwardOn, RightwardOn, CrossesAt}
+use Rattle.outline_model.specs.Rules.{FallsOn, RisesOn, LeftwardOn, RightwardOn, NoneCrosses}
 use Rattle.outline_model.proofs.MaskMoves.{IsSingle}
 use Rattle.outline_model.proofs.Steps.{side_count, floor_count, count-step, count-step_up, count-falls, count-rises, count-leftward, count-rightward}
-use Rattle.mask_rules.specs.Stretches.{walked, stretch_at, Spans, turned, IsDrawn}
+use Rattle.outline_model.specs.Edges.{seen}
+use Rattle.mask_rules.specs.Stretches.{walked, stretch_at, Spans, IsDrawn}
 
 -- ---- a stretch and its piece
 
@@ -108,10 +109,6 @@ single_of (pos (suc zero)) h = inr refl
 single_of (pos (suc (suc n))) h = absurd (h (λ s. elim s [ inl e ↦ omega (arith, ints, e) | inr e ↦ omega (arith, ints, e) ]))
 single_of (negsuc n) h = absurd (h (λ s. elim s [ inl e ↦ omega (arith, ints, e) | inr e ↦ omega (arith, ints, e) ]))
 
--- rule M0 holds at each pixel
-abbrev pub NoneCrosses : List Fragment → (ℕ → ℤ) → Type 0
-NoneCrosses fs line = (x y : ℤ) → ¬ CrossesAt fs line x y
-
 pub single_where_none_crosses : (fs : List Fragment) (line : ℕ → ℤ) (x y : ℤ) → NoneCrosses fs line → IsSingle (count fs line x y)
 single_where_none_crosses fs line x y none = single_of (count fs line x y) (λ h. none x y (inl h))
 
@@ -129,8 +126,8 @@ grown a b first second less = elim first [
 
 faces_of : (fs : List Fragment) (line : ℕ → ℤ) → IsOutline fs → NoneCrosses fs line → (v : Bool) (k : ℕ) (t : ℤ) → k < length fs
     → Spans (stretch_at fs line v k) t
-    → (turned v (mask fs line) (stretch_at fs line v k).at t ≡ (stretch_at fs line v k).opens)
-    × (turned v (mask fs line) ((stretch_at fs line v k).at -ℤ pos 1) t ≡ not (stretch_at fs line v k).opens)
+    → (seen v (mask fs line) (stretch_at fs line v k).at t ≡ (stretch_at fs line v k).opens)
+    × (seen v (mask fs line) ((stretch_at fs line v k).at -ℤ pos 1) t ≡ not (stretch_at fs line v k).opens)
 faces_of fs line outline none true k t below spans =
     let x = (stretch_at fs line true k).at in
     let here = single_where_none_crosses fs line x t none in
@@ -200,7 +197,7 @@ walked-stands v at from to t h = elim h [
 ]
 
 all_of : (fs : List Fragment) (line : ℕ → ℤ) → IsOutline fs → (v : Bool) (a t : ℤ)
-    → turned v (mask fs line) a t ≢ turned v (mask fs line) (a -ℤ pos 1) t
+    → seen v (mask fs line) a t ≢ seen v (mask fs line) (a -ℤ pos 1) t
     → (k : ℕ) × (k < length fs) × ((stretch_at fs line v k).at ≡ a) × Spans (stretch_at fs line v k) t
 unfolding stretch_at
 all_of fs line outline true a t changes =
