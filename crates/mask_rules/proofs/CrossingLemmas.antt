@@ -12,7 +12,7 @@ use Rattle.opc_base.specs.declared.plane.Pix.{Pix}
 use Rattle.outline_model.specs.Outline.{fragment_at, side_of, is_vertical, is_rising, low_end, high_end, end_at, finish_join, finish_place, count, mask, rect_between, swept, is_outward}
 use Rattle.opc_base.specs.Plane.{rect_cover}
 use Rattle.outline_model.specs.Rules.{CrossesAt, NoneCrosses}
-use Rattle.outline_model.proofs.MaskMoves.{IsSingle}
+use Rattle.outline_model.proofs.MaskMoves.{IsSingle, single_count}
 use Rattle.outline_model.proofs.MoveLaw.{count-move, start_end, finish_end}
 use Rattle.outline_model.proofs.Steps.{int_eq-false}
 use Rattle.outline_model.proofs.Walk.{stands}
@@ -21,7 +21,7 @@ use Rattle.mask_rules.specs.Spots.{lowest}
 use Rattle.outline_model.specs.Edges.{seen}
 use Rattle.mask_rules.specs.Stretches.{walked, Spans, stretch_at}
 use Rattle.mask_rules.specs.Sweeps.{IsBeside, MiscountAt}
-use Rattle.mask_rules.proofs.Drawn.{single_where_none_crosses, drawn}
+use Rattle.mask_rules.proofs.Drawn.{drawn}
 use Rattle.mask_rules.proofs.Firsts.{IsFirst-earlier, IsFirst-same}
 use Rattle.mask_rules.proofs.Judged.{IsStep, MeetsAt}
 use Rattle.mask_rules.proofs.StretchIs.{stretch-own}
@@ -68,7 +68,7 @@ crossing_first fs line line' i outward m w move kept ordered outward_is m_first 
     there : (p : Pix) → MeetsAt fs line' p ⊎ MiscountAt (mask fs line) (swept fs line i (line' i)) outward p → CrossesAt fs line' p.x p.y
     there p h = elim h [
       | inl meets ↦ inr meets
-      | inr wrong ↦ inl (wrong_count (count fs line p.x p.y) (count fs line' p.x p.y) outward (law p.x p.y true wrong.0) (single_where_none_crosses fs line p.x p.y kept) wrong.1)
+      | inr wrong ↦ inl (wrong_count (count fs line p.x p.y) (count fs line' p.x p.y) outward (law p.x p.y true wrong.0) (single_count fs line p.x p.y kept) wrong.1)
     ]
 
     back : (p : Pix) → CrossesAt fs line' p.x p.y → MeetsAt fs line' p ⊎ MiscountAt (mask fs line) (swept fs line i (line' i)) outward p
@@ -79,10 +79,10 @@ crossing_first fs line line' i outward m w move kept ordered outward_is m_first 
       where
         by : (b : Bool) → rect_cover (swept fs line i (line' i)) p.x p.y ≡ b → ¬ IsSingle (count fs line' p.x p.y)
             → MeetsAt fs line' p ⊎ MiscountAt (mask fs line) (swept fs line i (line' i)) outward p
-        by true e not_single = inr (e, count_wrong (count fs line p.x p.y) (count fs line' p.x p.y) outward (law p.x p.y true e) (single_where_none_crosses fs line p.x p.y kept) not_single)
+        by true e not_single = inr (e, count_wrong (count fs line p.x p.y) (count fs line' p.x p.y) outward (law p.x p.y true e) (single_count fs line p.x p.y kept) not_single)
         by false e not_single =
             let same : count fs line' p.x p.y ≡ count fs line p.x p.y = (let is = law p.x p.y false e in omega (arith, ints)) in
-            absurd (not_single (subst IsSingle (sym same) (single_where_none_crosses fs line p.x p.y kept)))
+            absurd (not_single (subst IsSingle (sym same) (single_count fs line p.x p.y kept)))
 
 -- ---- beside the old line
 

@@ -6,7 +6,7 @@ use Rattle.std.proofs.lemmas.Bool.Decides.{Decides-int_eq}
 use Rattle.outline_model.specs.declared.fragment.Fragment.{Fragment}
 use Rattle.outline_model.specs.Outline.{IsOutline, vertical_piece, horizontal_piece, step, count, mask, total}
 use Rattle.outline_model.specs.Rules.{FallsOn, RisesOn, LeftwardOn, RightwardOn, NoneCrosses}
-use Rattle.outline_model.proofs.MaskMoves.{IsSingle}
+use Rattle.outline_model.proofs.MaskMoves.{IsSingle, single_count}
 use Rattle.outline_model.proofs.Steps.{side_count, floor_count, count-step, count-step_up, count-falls, count-rises, count-leftward, count-rightward}
 use Rattle.outline_model.specs.Edges.{seen}
 use Rattle.mask_rules.specs.Stretches.{walked, stretch_at, Spans, IsDrawn}
@@ -103,15 +103,6 @@ rightward_stretch fs line k x y h =
 
 -- ---- counts
 
-pub single_of : (c : ℤ) → ¬ (¬ IsSingle c) → IsSingle c
-single_of (pos zero) h = inl refl
-single_of (pos (suc zero)) h = inr refl
-single_of (pos (suc (suc n))) h = absurd (h (λ s. elim s [ inl e ↦ omega (arith, ints, e) | inr e ↦ omega (arith, ints, e) ]))
-single_of (negsuc n) h = absurd (h (λ s. elim s [ inl e ↦ omega (arith, ints, e) | inr e ↦ omega (arith, ints, e) ]))
-
-pub single_where_none_crosses : (fs : List Fragment) (line : ℕ → ℤ) (x y : ℤ) → NoneCrosses fs line → IsSingle (count fs line x y)
-single_where_none_crosses fs line x y none = single_of (count fs line x y) (λ h. none x y (inl h))
-
 grown : (a b : ℤ) → IsSingle a → IsSingle b → a <ℤ b → (int_eq b (pos 1) ≡ true) × (int_eq a (pos 1) ≡ false)
 grown a b first second less = elim first [
   | inl zero_then ↦ elim second [
@@ -130,8 +121,8 @@ faces_of : (fs : List Fragment) (line : ℕ → ℤ) → IsOutline fs → NoneCr
     × (seen v (mask fs line) ((stretch_at fs line v k).at -ℤ pos 1) t ≡ not (stretch_at fs line v k).opens)
 faces_of fs line outline none true k t below spans =
     let x = (stretch_at fs line true k).at in
-    let here = single_where_none_crosses fs line x t none in
-    let left = single_where_none_crosses fs line (x -ℤ pos 1) t none in
+    let here = single_count fs line x t none in
+    let left = single_count fs line (x -ℤ pos 1) t none in
     elim (upright_piece fs line k t spans) [
       | inl h ↦
           let less = count-falls fs line x t k below h.1
@@ -146,8 +137,8 @@ faces_of fs line outline none true k t below spans =
     ]
 faces_of fs line outline none false k t below spans =
     let y = (stretch_at fs line false k).at in
-    let here = single_where_none_crosses fs line t y none in
-    let under = single_where_none_crosses fs line t (y -ℤ pos 1) none in
+    let here = single_count fs line t y none in
+    let under = single_count fs line t (y -ℤ pos 1) none in
     elim (level_piece fs line k t spans) [
       | inl h ↦
           let less = count-leftward fs line t y k outline below h.1

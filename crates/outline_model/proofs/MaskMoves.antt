@@ -82,7 +82,7 @@ swept-covered old new was is e = elim was [
 ]
 
 -- where the outline does not cross itself, a count is 0 or 1
-single_count : (fs : List Fragment) (line : ℕ → ℤ) (x y : ℤ) → NoneCrosses fs line → IsSingle (count fs line x y)
+pub single_count : (fs : List Fragment) (line : ℕ → ℤ) (x y : ℤ) → NoneCrosses fs line → IsSingle (count fs line x y)
 single_count fs line x y none = by (int_eq (count fs line x y) (pos 0)) (int_eq (count fs line x y) (pos 1)) refl refl
   where
     by : (p q : Bool) → int_eq (count fs line x y) (pos 0) ≡ p → int_eq (count fs line x y) (pos 1) ≡ q → IsSingle (count fs line x y)
