@@ -299,14 +299,14 @@ in_order-both inside rules es are edges =
     (each-along rules false (seen false inside) edges.horizontal are edges.level.sides edges.level.edges))
     (each-along rules true (seen true inside) edges.vertical are edges.upright.sides edges.upright.edges))
 
-abbrev none_piece : EdgePiece
+abbrev pub none_piece : EdgePiece
 none_piece = record { side = Left; line = pos 0; lo = pos 0; hi = pos 0 }
 
-length-pieces : (fs : List Fragment) → length (map piece_of fs) ≡ length fs
+pub length-pieces : (fs : List Fragment) → length (map piece_of fs) ≡ length fs
 length-pieces [] = refl
 length-pieces (f ∷ fs) = let rest = length-pieces fs in omega arith
 
-piece_at : (fs : List Fragment) (k : ℕ) → get_or (map piece_of fs) k none_piece ≡ piece_of (fragment_at fs k)
+pub piece_at : (fs : List Fragment) (k : ℕ) → get_or (map piece_of fs) k none_piece ≡ piece_of (fragment_at fs k)
 piece_at [] k = refl
 piece_at (f ∷ fs) zero = refl
 piece_at (f ∷ fs) (suc k) = piece_at fs k

@@ -1,6 +1,6 @@
 -- The pieces of the edges of a region become its fragments.
-use Rattle.std.proofs.Common.{◌≡◌, ◌⊎◌, inl, inr, ℕ, ◌<◌, ◌≤◌, ℤ, pos, negsuc, unsigned_abs, ◌-ℤ◌, ◌≤ℤ◌, ◌<ℤ◌, int_lt, Bool, true, false, not, if◌then◌else◌, List, [], ◌∷◌, length, get_or, map, refl, sym, ◌∙◌, ap, subst, arith}
-use Rattle.std.specs.Prelude.{All, AllPairs}
+use Rattle.std.proofs.Common.{◌≡◌, ◌⊎◌, inl, inr, ℕ, ◌<◌, ◌≤◌, ℤ, pos, negsuc, unsigned_abs, ◌-ℤ◌, ◌<ℤ◌, int_lt, Bool, true, false, not, if◌then◌else◌, List, [], ◌∷◌, length, map, refl, sym, ◌∙◌, ap, subst, arith}
+use Rattle.std.specs.Prelude.{All}
 use Rattle.std.proofs.lemmas.Int.{ints}
 use Rattle.std.proofs.lemmas.List.{ext_get_or, length-map}
 use Rattle.std.proofs.Math.ListN.{get_or-map}
@@ -18,7 +18,7 @@ use Rattle.outline_model.specs.declared.piece.EdgePiece.{EdgePiece}
 use Rattle.outline_model.specs.Fragmentation.{AreFragments, ArePieces, piece_of}
 use Rattle.outline_model.specs.Lengths.{AreRules}
 use Rattle.outline_model.specs.Limits.{IsFragmentList, IsPlacedFragment}
-use Rattle.outline_model.specs.Outline.{Point, finish_join, finish_place, fragment_at, is_rising, is_vertical, point_on, start_join, start_place}
+use Rattle.outline_model.specs.Outline.{Point, finish_join, fragment_at, is_rising, is_vertical, point_on, start_join}
 use Rattle.outline_model.specs.Ranges.{IsPlaced}
 use Rattle.outline_model.specs.Target.{IsBoundary, IsJoined, Names, finish_point, opens, start_point}
 use Rattle.outline_model.proofs.TargetJoins.{finish_leads_on, meets_side, start_leads_back}

@@ -5,3 +5,4 @@ pub mod FragmentLaws
 pub mod IndexLaws
 pub mod JoinLaws
 pub mod LengthLaws
+pub mod UniqueLaws

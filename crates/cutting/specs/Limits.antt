@@ -1,11 +1,10 @@
 -- How long edges and their pieces are.
-use Rattle.std.specs.Prelude.{◌≡◌, ◌⊎◌, ℕ, ◌+◌, ◌*◌, ◌<◌, ℤ, pos, ◌+ℤ◌, ◌≤ℤ◌, ◌<ℤ◌, true, false, if◌then◌else◌, List, length}
+use Rattle.std.specs.Prelude.{◌≡◌, ◌⊎◌, ℕ, ◌+◌, ◌*◌, ◌<◌, pos, ◌+ℤ◌, ◌<ℤ◌, true, false, if◌then◌else◌, List, length}
 use Rattle.std.specs.Int.RustNames.{unsigned_abs}
 use Rattle.outline_model.specs.Outline.{is_vertical}
 use Rattle.outline_model.specs.Edges.{EdgePrecedes, edge_at}
 use Rattle.outline_model.specs.declared.edge.Edge.{Edge}
 use Rattle.outline_model.specs.Ranges.{IsPlaced}
-use Rattle.opc_base.specs.declared.rules.CutRules.{CutRules}
 
 -- an edge of some length within the limit of a layout
 pub record IsCuttable (e : Edge) : Type 0 where

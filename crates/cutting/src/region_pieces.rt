@@ -20,7 +20,12 @@ pub const MAX_FRAGMENTS: u64 = 32768;
 /// Why edges are not cut.
 #[derive(Debug, Drop)]
 pub enum CutFault {
-    TooManyFragments { count: u64 },
+    /// There are more than 32,768 pieces.
+    TooManyFragments {
+        /// So many.
+        count: u64,
+    },
+    /// No memory was left.
     NoMemory,
 }
 

@@ -1,5 +1,5 @@
 -- The fragments of a region, as they are found.
-use Rattle.std.proofs.Common.{◌≡◌, ℕ, ◌<◌, ◌≤◌, ℤ, true, false, List, length, All, sym, ◌∙◌, ap, subst, arith}
+use Rattle.std.proofs.Common.{◌≡◌, ℕ, ◌<◌, ◌≤◌, ℤ, pos, true, false, List, length, replicate, All, sym, ◌∙◌, ap, subst, arith}
 use Rattle.opc_base.specs.declared.plane.Rect.{Rect}
 use Rattle.opc_base.specs.declared.rules.CutRules.{CutRules}
 use Rattle.opc_base.specs.Canonical.{AreCanonical}
@@ -9,7 +9,9 @@ use Rattle.outline_model.specs.declared.fragment.Fragment.{Fragment}
 use Rattle.outline_model.specs.declared.piece.EdgePiece.{EdgePiece}
 use Rattle.outline_model.specs.Fragmentation.{AreFragments, ArePieces}
 use Rattle.outline_model.specs.Limits.{IsFragmentList}
+use Rattle.outline_model.specs.Outline.{lines, mask}
 use Rattle.outline_model.specs.Target.{IsBoundary}
+use Rattle.outline_model.proofs.TargetMask.{get_or-zeros, unmoved_mask}
 use Rattle.cutting.specs.Ends.{AreJoinedPieces, IsMet, piece_at}
 use Rattle.cutting.proofs.FragmentLaws.{fragments_of_joined, list_of_fragments, met_next, met_previous, rules_hold}
 
@@ -38,3 +40,9 @@ pub cut_known : (region rects : List Rect) (rules : CutRules) (made ps : List Ed
 cut_known region rects rules made ps fs same lent canonical placed none pieces few joined =
     let all : length fs ≡ length made = joined.count ∙ ap length lent in
     list_of_fragments region rules fs canonical placed none (cut_fragments region rects rules made ps fs same lent pieces joined) (omega arith)
+
+pub cut_unmoved : (region : List Rect) (fs : List Fragment) → AreCanonical region → All (IsRectWithin 1048000) region → IsBoundary (cover region) fs → IsFragmentList fs
+    → (x y : ℤ) → mask fs (lines fs (replicate (length fs) (pos 0))) x y ≡ cover region x y
+cut_unmoved region fs canonical placed boundary list x y =
+    unmoved_mask region fs (replicate (length fs) (pos 0)) x y
+    (record { canonical = canonical; within = placed; list = list; boundary = boundary; zero = get_or-zeros (length fs) })

@@ -1,9 +1,11 @@
 //! Cuts the edges of a region into its fragments.
-ghost use Rattle.std.specs.Prelude.{ℤ, All, IfErr, IfOk};
+ghost use Rattle.std.specs.Prelude.{◌≡◌, ◌≤◌, ℤ, pos, All, IfErr, IfOk, List, length, replicate};
 ghost use Rattle.cutting.specs.Faults.{IsFault};
 ghost use Rattle.opc_base.specs.Plane.{IsRectWithin, cover};
 ghost use Rattle.opc_base.specs.Runs.{IsCornerTouch};
+ghost use Rattle.outline_model.specs.declared.fragment.Fragment.{Fragment};
 ghost use Rattle.outline_model.specs.Fragmentation.{AreFragments};
+ghost use Rattle.outline_model.specs.Outline.{lines, mask};
 ghost use Rattle.outline_model.specs.Target.{IsBoundary};
 
 use crate::fragments::Fragments;
@@ -24,8 +26,15 @@ pub fn cut(alloc: Global, region: &Region, rules: &CutRules) -> Result<Fragments
     // Each fragment is a piece of an edge, in order, and is joined at each end to the one that meets it there.
     ensures fragments { IfOk result (λ fs. AreFragments (cover region.now) rules.now fs) }
 
+    // No other list is so.
+    ensures unique { IfOk result (λ fs. (gs : List Fragment) → AreFragments (cover region.now) rules.now gs → gs ≡ fs) }
+    ensures few { IfOk result (λ fs. length fs ≤ 32768) }
+
     // They cover each edge once.
     ensures boundary { IfOk result (λ fs. IsBoundary (cover region.now) fs) }
+
+    // Where none has moved, their mask is the region.
+    ensures unmoved { IfOk result (λ fs. (x y : ℤ) → mask fs (lines fs (replicate (length fs) (pos 0))) x y ≡ cover region.now x y) }
 
     // A count is that of the pieces, which are too many.
     ensures many { IfErr result (IsFault (cover region.now) rules.now) }

@@ -7,16 +7,22 @@ use std::alloc::Global;
 /// The fragments of a target at offsets.
 #[derive(Clone, Copy)]
 pub struct Walk<'a> {
+    /// The fragments.
     pub fragments: &'a Fragments,
+    /// How far each has moved outward, in pixels.
     pub offsets: &'a [i32],
 }
 
 /// A straight part of the outline, walked with the inside on the left hand: across its direction it lies at `at`.
 #[derive(Clone, Copy)]
 pub struct Part {
+    /// Whether it runs along y.
     pub is_vertical: bool,
+    /// Its place across its direction.
     pub at: i32,
+    /// Where its walk starts, along its direction.
     pub from: i32,
+    /// Where its walk ends.
     pub to: i32,
 }
 

@@ -11,16 +11,17 @@ use Rattle.opc_base.specs.declared.plane.Rect.{Rect}
 use Rattle.opc_base.specs.declared.plane.Pix.{Pix}
 use Rattle.outline_model.specs.Outline.{fragment_at, side_of, is_vertical, is_rising, low_end, high_end, end_at, finish_join, finish_place, count, mask, rect_between, swept, is_outward}
 use Rattle.opc_base.specs.Plane.{rect_cover}
-use Rattle.outline_model.specs.Rules.{CrossesAt}
-use Rattle.outline_model.proofs.MaskMoves.{IsSingle}
+use Rattle.outline_model.specs.Rules.{CrossesAt, NoneCrosses}
+use Rattle.outline_model.proofs.MaskMoves.{IsSingle, single_count}
 use Rattle.outline_model.proofs.MoveLaw.{count-move, start_end, finish_end}
 use Rattle.outline_model.proofs.Steps.{int_eq-false}
 use Rattle.outline_model.proofs.Walk.{stands}
 use Rattle.mask_rules.specs.First.{earlier, IsFirst}
 use Rattle.mask_rules.specs.Spots.{lowest}
-use Rattle.mask_rules.specs.Stretches.{walked, Spans, stretch_at, turned}
+use Rattle.outline_model.specs.Edges.{seen}
+use Rattle.mask_rules.specs.Stretches.{walked, Spans, stretch_at}
 use Rattle.mask_rules.specs.Sweeps.{IsBeside, MiscountAt}
-use Rattle.mask_rules.proofs.Drawn.{NoneCrosses, single_where_none_crosses, drawn}
+use Rattle.mask_rules.proofs.Drawn.{drawn}
 use Rattle.mask_rules.proofs.Firsts.{IsFirst-earlier, IsFirst-same}
 use Rattle.mask_rules.proofs.Judged.{IsStep, MeetsAt}
 use Rattle.mask_rules.proofs.StretchIs.{stretch-own}
@@ -67,7 +68,7 @@ crossing_first fs line line' i outward m w move kept ordered outward_is m_first 
     there : (p : Pix) → MeetsAt fs line' p ⊎ MiscountAt (mask fs line) (swept fs line i (line' i)) outward p → CrossesAt fs line' p.x p.y
     there p h = elim h [
       | inl meets ↦ inr meets
-      | inr wrong ↦ inl (wrong_count (count fs line p.x p.y) (count fs line' p.x p.y) outward (law p.x p.y true wrong.0) (single_where_none_crosses fs line p.x p.y kept) wrong.1)
+      | inr wrong ↦ inl (wrong_count (count fs line p.x p.y) (count fs line' p.x p.y) outward (law p.x p.y true wrong.0) (single_count fs line p.x p.y kept) wrong.1)
     ]
 
     back : (p : Pix) → CrossesAt fs line' p.x p.y → MeetsAt fs line' p ⊎ MiscountAt (mask fs line) (swept fs line i (line' i)) outward p
@@ -78,15 +79,15 @@ crossing_first fs line line' i outward m w move kept ordered outward_is m_first 
       where
         by : (b : Bool) → rect_cover (swept fs line i (line' i)) p.x p.y ≡ b → ¬ IsSingle (count fs line' p.x p.y)
             → MeetsAt fs line' p ⊎ MiscountAt (mask fs line) (swept fs line i (line' i)) outward p
-        by true e not_single = inr (e, count_wrong (count fs line p.x p.y) (count fs line' p.x p.y) outward (law p.x p.y true e) (single_where_none_crosses fs line p.x p.y kept) not_single)
+        by true e not_single = inr (e, count_wrong (count fs line p.x p.y) (count fs line' p.x p.y) outward (law p.x p.y true e) (single_count fs line p.x p.y kept) not_single)
         by false e not_single =
             let same : count fs line' p.x p.y ≡ count fs line p.x p.y = (let is = law p.x p.y false e in omega (arith, ints)) in
-            absurd (not_single (subst IsSingle (sym same) (single_where_none_crosses fs line p.x p.y kept)))
+            absurd (not_single (subst IsSingle (sym same) (single_count fs line p.x p.y kept)))
 
 -- ---- beside the old line
 
 beside_line : (inside : ℤ → ℤ → Bool) (v : Bool) (band : Rect) (l l' : ℤ) (opens : Bool) → band.x0 ≡ int_min l l' → band.x1 ≡ int_max l l' → l' ≢ l
-    → turned v inside l band.y0 ≡ opens → turned v inside (l -ℤ pos 1) band.y0 ≡ not opens
+    → seen v inside l band.y0 ≡ opens → seen v inside (l -ℤ pos 1) band.y0 ≡ not opens
     → IsBeside inside v band (if opens then int_lt l' l else int_lt l l')
 beside_line inside v band l l' true first past apart here left = by (int_lt l' l) refl
   where
@@ -113,8 +114,8 @@ walk_spans v false at low high less = (omega (arith, ints, clamps), omega (arith
 
 beside_side : (side : Side) (inside : ℤ → ℤ → Bool) (l l' low high : ℤ) → low <ℤ high → l' ≢ l
     → ((t : ℤ) → Spans (walked (is_vertical side) l (if is_rising side then low else high) (if is_rising side then high else low)) t
-    → (turned (is_vertical side) inside l t ≡ (walked (is_vertical side) l (if is_rising side then low else high) (if is_rising side then high else low)).opens)
-    × (turned (is_vertical side) inside (l -ℤ pos 1) t ≡ not (walked (is_vertical side) l (if is_rising side then low else high) (if is_rising side then high else low)).opens))
+    → (seen (is_vertical side) inside l t ≡ (walked (is_vertical side) l (if is_rising side then low else high) (if is_rising side then high else low)).opens)
+    × (seen (is_vertical side) inside (l -ℤ pos 1) t ≡ not (walked (is_vertical side) l (if is_rising side then low else high) (if is_rising side then high else low)).opens))
     → IsBeside inside (is_vertical side) (lowest (is_vertical side) (rect_between side l l' low high)) (is_outward side l l')
 beside_side Left inside l l' low high less apart faces =
     let face = faces low (walk_spans true false l low high less) in
@@ -136,7 +137,7 @@ beside_of fs line line' i move kept ordered apart =
     beside_side (side_of fs i) (mask fs line) (line i) (line' i) (low_end fs line i) (high_end fs line i) ordered apart
     (λ t spans.
     let face = (drawn fs line move.outline kept).faces (stands fs i) i t move.below (subst (λ s. Spans s t) (sym own) spans) in
-    subst (λ s. (turned (stands fs i) (mask fs line) s.at t ≡ s.opens) × (turned (stands fs i) (mask fs line) (s.at -ℤ pos 1) t ≡ not s.opens)) own face)
+    subst (λ s. (seen (stands fs i) (mask fs line) s.at t ≡ s.opens) × (seen (stands fs i) (mask fs line) (s.at -ℤ pos 1) t ≡ not s.opens)) own face)
   where
     own : stretch_at fs line (stands fs i) i ≡ walked (stands fs i) (line i)
         (if is_rising (side_of fs i) then low_end fs line i else high_end fs line i) (if is_rising (side_of fs i) then high_end fs line i else low_end fs line i)

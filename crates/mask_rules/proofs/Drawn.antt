@@ -5,10 +5,11 @@ use Rattle.std.proofs.lemmas.Int.{ints, clamps}
 use Rattle.std.proofs.lemmas.Bool.Decides.{Decides-int_eq}
 use Rattle.outline_model.specs.declared.fragment.Fragment.{Fragment}
 use Rattle.outline_model.specs.Outline.{IsOutline, vertical_piece, horizontal_piece, step, count, mask, total}
-use Rattle.outline_model.specs.Rules.{FallsOn, RisesOn, LeftwardOn, RightwardOn, CrossesAt}
-use Rattle.outline_model.proofs.MaskMoves.{IsSingle}
+use Rattle.outline_model.specs.Rules.{FallsOn, RisesOn, LeftwardOn, RightwardOn, NoneCrosses}
+use Rattle.outline_model.proofs.MaskMoves.{IsSingle, single_count}
 use Rattle.outline_model.proofs.Steps.{side_count, floor_count, count-step, count-step_up, count-falls, count-rises, count-leftward, count-rightward}
-use Rattle.mask_rules.specs.Stretches.{walked, stretch_at, Spans, turned, IsDrawn}
+use Rattle.outline_model.specs.Edges.{seen}
+use Rattle.mask_rules.specs.Stretches.{walked, stretch_at, Spans, IsDrawn}
 
 -- ---- a stretch and its piece
 
@@ -102,19 +103,6 @@ rightward_stretch fs line k x y h =
 
 -- ---- counts
 
-pub single_of : (c : ℤ) → ¬ (¬ IsSingle c) → IsSingle c
-single_of (pos zero) h = inl refl
-single_of (pos (suc zero)) h = inr refl
-single_of (pos (suc (suc n))) h = absurd (h (λ s. elim s [ inl e ↦ omega (arith, ints, e) | inr e ↦ omega (arith, ints, e) ]))
-single_of (negsuc n) h = absurd (h (λ s. elim s [ inl e ↦ omega (arith, ints, e) | inr e ↦ omega (arith, ints, e) ]))
-
--- rule M0 holds at each pixel
-abbrev pub NoneCrosses : List Fragment → (ℕ → ℤ) → Type 0
-NoneCrosses fs line = (x y : ℤ) → ¬ CrossesAt fs line x y
-
-pub single_where_none_crosses : (fs : List Fragment) (line : ℕ → ℤ) (x y : ℤ) → NoneCrosses fs line → IsSingle (count fs line x y)
-single_where_none_crosses fs line x y none = single_of (count fs line x y) (λ h. none x y (inl h))
-
 grown : (a b : ℤ) → IsSingle a → IsSingle b → a <ℤ b → (int_eq b (pos 1) ≡ true) × (int_eq a (pos 1) ≡ false)
 grown a b first second less = elim first [
   | inl zero_then ↦ elim second [
@@ -129,12 +117,12 @@ grown a b first second less = elim first [
 
 faces_of : (fs : List Fragment) (line : ℕ → ℤ) → IsOutline fs → NoneCrosses fs line → (v : Bool) (k : ℕ) (t : ℤ) → k < length fs
     → Spans (stretch_at fs line v k) t
-    → (turned v (mask fs line) (stretch_at fs line v k).at t ≡ (stretch_at fs line v k).opens)
-    × (turned v (mask fs line) ((stretch_at fs line v k).at -ℤ pos 1) t ≡ not (stretch_at fs line v k).opens)
+    → (seen v (mask fs line) (stretch_at fs line v k).at t ≡ (stretch_at fs line v k).opens)
+    × (seen v (mask fs line) ((stretch_at fs line v k).at -ℤ pos 1) t ≡ not (stretch_at fs line v k).opens)
 faces_of fs line outline none true k t below spans =
     let x = (stretch_at fs line true k).at in
-    let here = single_where_none_crosses fs line x t none in
-    let left = single_where_none_crosses fs line (x -ℤ pos 1) t none in
+    let here = single_count fs line x t none in
+    let left = single_count fs line (x -ℤ pos 1) t none in
     elim (upright_piece fs line k t spans) [
       | inl h ↦
           let less = count-falls fs line x t k below h.1
@@ -149,8 +137,8 @@ faces_of fs line outline none true k t below spans =
     ]
 faces_of fs line outline none false k t below spans =
     let y = (stretch_at fs line false k).at in
-    let here = single_where_none_crosses fs line t y none in
-    let under = single_where_none_crosses fs line t (y -ℤ pos 1) none in
+    let here = single_count fs line t y none in
+    let under = single_count fs line t (y -ℤ pos 1) none in
     elim (level_piece fs line k t spans) [
       | inl h ↦
           let less = count-leftward fs line t y k outline below h.1
@@ -200,7 +188,7 @@ walked-stands v at from to t h = elim h [
 ]
 
 all_of : (fs : List Fragment) (line : ℕ → ℤ) → IsOutline fs → (v : Bool) (a t : ℤ)
-    → turned v (mask fs line) a t ≢ turned v (mask fs line) (a -ℤ pos 1) t
+    → seen v (mask fs line) a t ≢ seen v (mask fs line) (a -ℤ pos 1) t
     → (k : ℕ) × (k < length fs) × ((stretch_at fs line v k).at ≡ a) × Spans (stretch_at fs line v k) t
 unfolding stretch_at
 all_of fs line outline true a t changes =

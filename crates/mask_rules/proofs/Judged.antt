@@ -6,17 +6,18 @@ use Rattle.std.proofs.lemmas.Bool.Decides.{eqb_tells}
 use Rattle.outline_model.specs.declared.fragment.Fragment.{Fragment}
 use Rattle.opc_base.specs.declared.plane.Pix.{Pix}
 use Rattle.outline_model.specs.Outline.{IsOutline, DiffersOnlyAt, mask, next, previous, vertical_piece, horizontal_piece}
-use Rattle.outline_model.specs.Rules.{RisesOn, LeftwardOn, MeetUpright, MeetLevel}
+use Rattle.outline_model.specs.Rules.{RisesOn, LeftwardOn, MeetUpright, MeetLevel, NoneCrosses}
 use Rattle.opc_base.specs.Runs.{LiesInShortRun, IsCornerTouch}
 use Rattle.mask_rules.specs.declared.clash.Clash.{Clash}
 use Rattle.mask_rules.specs.declared.clash.Clash.TheVariants.{Meet, Narrow, Touch}
 use Rattle.mask_rules.specs.declared.stretch.Stretch.{Stretch}
 use Rattle.mask_rules.specs.Clashes.{clash_pixel, is_meeting, is_narrow, is_touching, of_colour, ClashesOf, ClashesNow}
 use Rattle.mask_rules.specs.First.{IsUpTo, IsFirst}
-use Rattle.mask_rules.specs.Stretches.{pixel_at, stretch_at, turned}
+use Rattle.outline_model.specs.Edges.{seen}
+use Rattle.mask_rules.specs.Stretches.{pixel_at, stretch_at}
 use Rattle.mask_rules.proofs.Changed.{stretch-same}
 use Rattle.mask_rules.proofs.ClashFacts.{some_of, some_if, pair_of_test, test_of_pair, point_of_test, test_of_point, IsMeeting, meeting_of_test, test_of_meeting, pixel_up_to}
-use Rattle.mask_rules.proofs.Drawn.{NoneCrosses, drawn, upright_piece, level_piece, falls_stretch, rises_stretch, leftward_stretch, rightward_stretch}
+use Rattle.mask_rules.proofs.Drawn.{drawn, upright_piece, level_piece, falls_stretch, rises_stretch, leftward_stretch, rightward_stretch}
 use Rattle.mask_rules.proofs.Firsts.{IsUpTo-refl, IsFirst-cover}
 use Rattle.mask_rules.proofs.Runs.{IsPair, run_of_pair, pair_of_run, IsMeetingPoint, touch_of_point, point_of_touch}
 
@@ -92,7 +93,7 @@ abbrev pub NarrowAt : Bool → (ℤ → ℤ → Bool) → ℤ → Pix → Type 0
 NarrowAt c inside least p =
     LiesInShortRun (λ a. of_colour c (inside a p.y)) least p.x ⊎ LiesInShortRun (λ a. of_colour c (inside p.x a)) least p.y
 
-narrow_at : (v c : Bool) (inside : ℤ → ℤ → Bool) (least a t : ℤ) → LiesInShortRun (λ b. of_colour c (turned v inside b t)) least a
+narrow_at : (v c : Bool) (inside : ℤ → ℤ → Bool) (least a t : ℤ) → LiesInShortRun (λ b. of_colour c (seen v inside b t)) least a
     → NarrowAt c inside least (pixel_at v a t)
 narrow_at true c inside least a t short = inl short
 narrow_at false c inside least a t short = inr short
@@ -111,7 +112,7 @@ narrow_first fs line line' i c least first move kept none keeps = IsFirst-cover 
         (run_of_pair (mask fs line') (length fs) (stretch_at fs line') (drawn fs line' move.outline none) two.v c two.j two.k least _ two.j_below two.k_below
         (pair_of_test _ _ c least test.0)))
 
-    found : (v : Bool) (a t : ℤ) → LiesInShortRun (λ b. of_colour c (turned v (mask fs line') b t)) least a
+    found : (v : Bool) (a t : ℤ) → LiesInShortRun (λ b. of_colour c (seen v (mask fs line') b t)) least a
         → (p : Pix) × ClashesNow fs line' (Narrow c least) i p × IsUpTo p (pixel_at v a t)
     found v a t short =
         let at = pair_of_run (mask fs line') (length fs) (stretch_at fs line') (drawn fs line' move.outline none) v c least a t short in

@@ -1,22 +1,21 @@
 -- The rows and columns of a set within the field.
-use Rattle.std.proofs.Common.{◌≡◌, ◌⊎◌, inl, inr, ℕ, ◌+◌, ◌<◌, ◌≤◌, ℤ, pos, negsuc, neg_ℤ, ◌+ℤ◌, ◌-ℤ◌, ◌≤ℤ◌, ◌<ℤ◌, int_eq, int_le, int_lt, Bool, true, false, not, ◌&&◌, if◌then◌else◌, List, [], ◌∷◌, length, get_or, take, take_all, refl, sym, ◌∙◌, ap, subst, arith}
+use Rattle.std.proofs.Common.{◌≡◌, ◌⊎◌, inl, inr, ℕ, ◌≤◌, ℤ, pos, negsuc, neg_ℤ, ◌+ℤ◌, ◌-ℤ◌, ◌≤ℤ◌, ◌<ℤ◌, int_eq, int_le, int_lt, Bool, true, false, not, ◌&&◌, if◌then◌else◌, List, [], ◌∷◌, length, get_or, take, take_all, refl, sym, ◌∙◌, ap, arith}
 use Rattle.std.specs.Prelude.{All}
-use Rattle.std.proofs.lemmas.Int.{ints, by_lt_z}
+use Rattle.std.proofs.lemmas.Int.{ints}
 use Rattle.opc_base.specs.declared.plane.Corner.{Corner}
 use Rattle.opc_base.specs.declared.plane.Pix.{Pix}
 use Rattle.opc_base.specs.declared.plane.Rect.{Rect}
 use Rattle.opc_base.specs.Canonical.{AreCanonical, IsSolid}
 use Rattle.opc_base.specs.Corners.{quadrant_sum}
 use Rattle.opc_base.specs.Plane.{IsRectWithin, PixelSet, cover, indicator, outside, rect_cover}
-use Rattle.opc_base.specs.Runs.{IsRun, LiesInShortRun}
+use Rattle.opc_base.specs.Runs.{IsRun}
 use Rattle.opc_base.specs.Sums.{sum_each}
 use Rattle.rect_union.specs.CornerSets.{AreCornersOfSet, IsCornerWithin, corner_set, rect_sign}
-use Rattle.rect_union.specs.Outlines.{path_count, rect_count}
-use Rattle.rect_union.proofs.LowerSides.{known}
+use Rattle.rect_union.specs.Outlines.{rect_count}
 use Rattle.rect_union.proofs.RectCornerLaws.{count_is_cover}
 use Rattle.rect_union.proofs.SumLaws.{sum_each-same}
 use Rattle.rect_union.proofs.WithinLaws.{IsInLimit, rects_within}
-use Rattle.mask_rules.specs.LineSets.{LiesInShortLine, across, along, field, field_rect, field_sign, line_set, shown, sign_of, turned, turned_rect}
+use Rattle.mask_rules.specs.LineSets.{LiesInShortLine, across, field, field_rect, field_sign, line_set, sign_of, turned, turned_rect}
 use Rattle.mask_rules.specs.ShortLines.{LiesInside}
 
 -- ---- the field

@@ -13,7 +13,8 @@ use Rattle.mask_rules.specs.declared.stretch.Stretch.{Stretch}
 use Rattle.mask_rules.specs.First.{comes_before, earlier, IsUpTo, IsFirst}
 use Rattle.mask_rules.specs.Spots.{is_inside, spot_pixel, SpotsAt, is_ahead, lowest}
 use Rattle.mask_rules.specs.Sweeps.{IsBeside, MiscountAt, corner_of}
-use Rattle.mask_rules.specs.Stretches.{Spans, pixel_at, rect_at, stretch_at, turned, IsDrawn}
+use Rattle.outline_model.specs.Edges.{seen}
+use Rattle.mask_rules.specs.Stretches.{Spans, pixel_at, rect_at, stretch_at, IsDrawn}
 use Rattle.mask_rules.proofs.Changed.{stretch_within}
 use Rattle.mask_rules.proofs.ClashFacts.{and_left, and_right, and_true, lt_true, true_lt, some_of, some_if, pixel_up_to}
 use Rattle.mask_rules.proofs.ClashSearch.{IsAllNear, contained_below, covers_at, covers_in, reaching}
@@ -127,7 +128,7 @@ reaches_spot n s v band opens first k t is_first below stands =
 -- a change of the set inside the band
 change_stands : (inside : ℤ → ℤ → Bool) (n : ℕ) (s : Bool → ℕ → Stretch) (v : Bool) (band : Rect) (opens : Bool) (z t : ℤ) → IsDrawn inside n s
     → band.x0 <ℤ z → z <ℤ band.x1 → band.y0 ≤ℤ t → t <ℤ band.y1
-    → turned v inside z t ≡ opens → turned v inside (z -ℤ pos 1) t ≡ not opens
+    → seen v inside z t ≡ opens → seen v inside (z -ℤ pos 1) t ≡ not opens
     → (k : ℕ) × (k < n) × ((s v k).at ≡ z) × IsInside band opens (s v k) t
 change_stands inside n s v band opens z t drawn after before low high here left =
     let found = drawn.all v z t (not_apart _ _ (here ∙ sym (not_not opens) ∙ ap not (sym left))) in
@@ -136,7 +137,7 @@ change_stands inside n s v band opens z t drawn after before low high here left 
       found.1,
       at,
       record {
-        opens_is = sym (drawn.faces v found.0 t found.1 found.3).0 ∙ ap (λ a. turned v inside a t) at ∙ here;
+        opens_is = sym (drawn.faces v found.0 t found.1 found.3).0 ∙ ap (λ a. seen v inside a t) at ∙ here;
         after = omega (arith, ints);
         before = omega (arith, ints);
         spans = found.3;
@@ -151,23 +152,23 @@ some_same o p q e f = let g = sym e ∙ f in cc g
 pub corner_covered : (inside : ℤ → ℤ → Bool) (n : ℕ) (s : Bool → ℕ → Stretch) (v : Bool) (band : Rect) (outward : Bool) (m o : Option Pix)
     → IsDrawn inside n s → band.y1 ≡ band.y0 +ℤ pos 1
     → IsFirst (SpotsOf n s v band outward) m → IsFirst (SpotsOf n s v band (not outward)) o
-    → is_ahead o m ≡ true → turned v inside band.x0 band.y0 ≡ outward
+    → is_ahead o m ≡ true → seen v inside band.x0 band.y0 ≡ outward
 corner_covered inside n s v band outward m None drawn one m_first o_first ahead = absurd (cc ahead)
 corner_covered inside n s v band outward m (Some p) drawn one m_first o_first ahead =
     let found = stands_at n s v band (not outward) p one (o_first.is_one p refl) in
     let q = s v found.k in
     let after : band.x0 <ℤ q.at = found.stands.after in
     let q_before : q.at <ℤ band.x1 = found.stands.before in
-    let left : turned v inside (q.at -ℤ pos 1) band.y0 ≡ outward =
+    let left : seen v inside (q.at -ℤ pos 1) band.y0 ≡ outward =
     (drawn.faces v found.k band.y0 found.below found.stands.spans).1 ∙ ap not found.stands.opens_is ∙ not_not outward in
-    elim (downward (λ a. turned v inside a band.y0) band.x0 (q.at -ℤ pos 1) (omega (arith, ints))) [
+    elim (downward (λ a. seen v inside a band.y0) band.x0 (q.at -ℤ pos 1) (omega (arith, ints))) [
       | inl same ↦ same band.x0 (omega (arith, ints)) (omega (arith, ints)) ∙ left
       | inr change ↦
           let z = change.0 in
           let above : band.x0 <ℤ z = change.1 in
           let upto : z ≤ℤ (q.at -ℤ pos 1) = change.2 in
-          let here : turned v inside z band.y0 ≡ outward = change.4 z (omega (arith, ints)) upto ∙ left in
-          let before : turned v inside (z -ℤ pos 1) band.y0 ≡ not outward = apart_is_not _ _ change.3 ∙ ap not left in
+          let here : seen v inside z band.y0 ≡ outward = change.4 z (omega (arith, ints)) upto ∙ left in
+          let before : seen v inside (z -ℤ pos 1) band.y0 ≡ not outward = apart_is_not _ _ change.3 ∙ ap not left in
           let stands = change_stands inside n s v band outward z band.y0 drawn above (omega (arith, ints)) (omega (arith, ints)) (omega (arith, ints)) here before in
           let at : (s v stands.0).at ≡ z = stands.2 in
           let first = reaches_spot n s v band outward m stands.0 band.y0 m_first stands.1 stands.3 in
@@ -185,17 +186,17 @@ corner_covered inside n s v band outward m (Some p) drawn one m_first o_first ah
 pub corner_ahead : (inside : ℤ → ℤ → Bool) (n : ℕ) (s : Bool → ℕ → Stretch) (v : Bool) (band : Rect) (outward : Bool) (m o : Option Pix)
     → IsDrawn inside n s → band.y1 ≡ band.y0 +ℤ pos 1 → IsBeside inside v band outward
     → IsFirst (SpotsOf n s v band outward) m → IsFirst (SpotsOf n s v band (not outward)) o
-    → turned v inside band.x0 band.y0 ≡ outward → is_ahead o m ≡ true
+    → seen v inside band.x0 band.y0 ≡ outward → is_ahead o m ≡ true
 corner_ahead inside n s v band outward m o drawn one beside m_first o_first corner =
-    elim (upward (λ a. turned v inside a band.y0) band.x0 beside.place beside.from) [
+    elim (upward (λ a. seen v inside a band.y0) band.x0 beside.place beside.from) [
       | inl same ↦ absurd (not_apart _ _ beside.free (same beside.place beside.from (omega (arith, ints)) ∙ corner))
       | inr change ↦
           let z = change.0 in
           let above : band.x0 <ℤ z = change.1 in
           let upto : z ≤ℤ beside.place = change.2 in
           let last : beside.place <ℤ band.x1 = beside.below in
-          let here : turned v inside z band.y0 ≡ not outward = apart_is_not _ _ change.3 ∙ ap not corner in
-          let before : turned v inside (z -ℤ pos 1) band.y0 ≡ not (not outward) =
+          let here : seen v inside z band.y0 ≡ not outward = apart_is_not _ _ change.3 ∙ ap not corner in
+          let before : seen v inside (z -ℤ pos 1) band.y0 ≡ not (not outward) =
           change.4 (z -ℤ pos 1) (omega (arith, ints)) (omega (arith, ints)) ∙ corner ∙ sym (not_not outward) in
           let stands = change_stands inside n s v band (not outward) z band.y0 drawn above (omega (arith, ints)) (omega (arith, ints)) (omega (arith, ints)) here before in
           let at : (s v stands.0).at ≡ z = stands.2 in
@@ -205,7 +206,7 @@ corner_ahead inside n s v band outward m o drawn one beside m_first o_first corn
     ]
   where
     by : (m : Option Pix) → IsFirst (SpotsOf n s v band outward) m → (z : ℤ) (p : Pix) → band.x0 <ℤ z
-        → ((a : ℤ) → band.x0 ≤ℤ a → a <ℤ z → turned v inside a band.y0 ≡ turned v inside band.x0 band.y0)
+        → ((a : ℤ) → band.x0 ≤ℤ a → a <ℤ z → seen v inside a band.y0 ≡ seen v inside band.x0 band.y0)
         → IsUpTo p (pixel_at v z band.y0) → is_ahead (Some p) m ≡ true
     by None m_first z p above same up = refl
     by (Some q) m_first z p above same up = cases (comes_before p q) refl
@@ -219,7 +220,7 @@ corner_ahead inside n s v band outward m o drawn one beside m_first o_first corn
             IsUpTo-trans _ p _ (subst (λ t. IsUpTo t p) (sym found.is) (comes_before-false p q e)) up in
             let less : r.at ≤ℤ z = across_up_to v _ _ _ both in
             let after : band.x0 <ℤ r.at = found.stands.after in
-            let left : turned v inside (r.at -ℤ pos 1) band.y0 ≡ not outward =
+            let left : seen v inside (r.at -ℤ pos 1) band.y0 ≡ not outward =
             (drawn.faces v found.k band.y0 found.below found.stands.spans).1 ∙ ap not found.stands.opens_is in
             absurd (not_apart _ _ left (same (r.at -ℤ pos 1) (omega (arith, ints)) (omega (arith, ints)) ∙ corner))
 
@@ -320,7 +321,7 @@ miscount_first inside n s r outward ahead a b drawn wide high a_first b_first so
               )
         ]
 
-corner_turned : (v : Bool) (inside : ℤ → ℤ → Bool) (r : Rect) → turned v inside (lowest v r).x0 (lowest v r).y0 ≡ inside r.x0 r.y0
+corner_turned : (v : Bool) (inside : ℤ → ℤ → Bool) (r : Rect) → seen v inside (lowest v r).x0 (lowest v r).y0 ≡ inside r.x0 r.y0
 corner_turned true inside r = refl
 corner_turned false inside r = refl
 

@@ -8,7 +8,7 @@ use Rattle.opc_base.specs.declared.plane.Rect.{Rect}
 use Rattle.opc_base.specs.declared.plane.Pix.{Pix}
 use Rattle.outline_model.specs.Ranges.{IsWithin}
 use Rattle.outline_model.specs.Outline.{IsOutline, fragment_at, side_of, outward, lines, is_outward, rect_between, swept, low_end, high_end, mask}
-use Rattle.outline_model.specs.Rules.{CrossesAt}
+use Rattle.outline_model.specs.Rules.{CrossesAt, NoneCrosses}
 use Rattle.outline_model.proofs.MoveLaw.{differs_at-set, is_outward-moved}
 use Rattle.outline_model.proofs.Walk.{stands}
 use Rattle.mask_rules.specs.declared.clash.Clash.TheVariants.{Meet}
@@ -16,7 +16,7 @@ use Rattle.mask_rules.specs.Clashes.{ClashesNow}
 use Rattle.mask_rules.specs.First.{IsFirst, earlier}
 use Rattle.mask_rules.specs.Limits.{IsRectWithin}
 use Rattle.mask_rules.specs.Spots.{lowest}
-use Rattle.mask_rules.specs.Sweeps.{NoneCrosses, IsBeside, MiscountAt}
+use Rattle.mask_rules.specs.Sweeps.{IsBeside, MiscountAt}
 use Rattle.mask_rules.proofs.CrossingLemmas.{crossing_first, beside_of, swept_some}
 use Rattle.mask_rules.proofs.Judged.{IsStep, meet_first}
 

@@ -1,5 +1,5 @@
--- Where no fragment has moved: the mask is the target, and it keeps all rules where the target keeps those of runs and corners.
-use Rattle.std.proofs.Common.{◌≡◌, ◌⊎◌, inl, inr, ℕ, suc, ◌<◌, ℤ, pos, negsuc, ◌≤ℤ◌, ◌<ℤ◌, Bool, true, false, not, ◌&&◌, ◌||◌, if◌then◌else◌, List, [], ◌∷◌, length, get_or, All, int_le, int_lt, refl, sym, ◌∙◌, ap, subst, arith}
+-- Where no fragment has moved, the mask keeps all rules where the target keeps those of runs and corners.
+use Rattle.std.proofs.Common.{◌≡◌, ◌⊎◌, inl, inr, ℕ, ◌<◌, ℤ, pos, ◌≤ℤ◌, ◌<ℤ◌, Bool, true, false, not, if◌then◌else◌, List, length, refl, sym, ◌∙◌, ap, subst, arith}
 use mathlib.Core.Path.{fun_ext}
 use Rattle.std.proofs.lemmas.Int.{ints, clamps}
 use Rattle.opc_base.specs.declared.broken.RuleName.{RuleName}
@@ -8,62 +8,20 @@ use Rattle.opc_base.specs.declared.broken.Place.{Place}
 use Rattle.opc_base.specs.declared.broken.Place.TheVariants.{Pixel, Fragment as FragmentNumber}
 use Rattle.opc_base.specs.declared.plane.Rect.{Rect}
 use Rattle.opc_base.specs.declared.rules.MaskRules.{MaskRules}
-use Rattle.opc_base.specs.Canonical.{AreCanonical}
-use Rattle.opc_base.specs.Plane.{IsRectWithin, PixelSet, cover, outside, rect_cover}
-use Rattle.opc_base.specs.Runs.{IsCornerTouch, IsTooNarrow}
+use Rattle.opc_base.specs.Plane.{cover}
 use Rattle.outline_model.specs.declared.fragment.Fragment.{Fragment}
 use Rattle.outline_model.specs.declared.fragment.Join.{Join}
 use Rattle.outline_model.specs.declared.fragment.Join.TheVariants.{Cut, Corner}
 use Rattle.outline_model.specs.Limits.{IsFragmentList}
-use Rattle.outline_model.specs.Outline.{count, end_at, finish_join, finish_place, fragment_at, high_end, is_rising, is_vertical, lines, low_end, mask, side_of, start_join, start_place}
+use Rattle.outline_model.specs.Outline.{count, end_at, finish_join, finish_place, fragment_at, is_rising, is_vertical, lines, mask, side_of, start_join, start_place}
 use Rattle.outline_model.specs.Rules.{Breaks, CrossesAt, KeepsRules, NoneCrosses}
-use Rattle.outline_model.specs.Target.{IsBoundary}
-use Rattle.outline_model.proofs.TargetMask.{AtRest, at_rest_without_offsets, count-at_rest, finish_at_rest, mask-at_rest, start_at_rest}
+use Rattle.outline_model.proofs.TargetMask.{AtRest, IsUnmoved, at_rest_without_offsets, finish_at_rest, start_at_rest, unmoved_count, unmoved_ends, unmoved_mask}
 use Rattle.outline_model.proofs.Walk.{stands}
-use Rattle.edges.specs.Disjoint.{IsSolid}
-use Rattle.cutting.proofs.FragmentLaws.{canonical_apart}
 use Rattle.mask_rules.specs.declared.stretch.Stretch.{Stretch}
 use Rattle.mask_rules.specs.Stretches.{Spans, stretch_at, walked}
+use Rattle.mask_rules.specs.TargetRules.{KeepsTarget}
 use Rattle.mask_rules.proofs.Drawn.{StretchOn, falls_stretch, leftward_stretch, rightward_stretch, rises_stretch}
 use Rattle.mask_rules.proofs.StretchIs.{stretch-corner, stretch-cut, stretch-own}
-
--- ---- far left of a region
-
-left_of_rect : (r : Rect) (x y : ℤ) → IsSolid r → x <ℤ negsuc 1047999 → rect_cover r x y ≡ false
-left_of_rect r x y solid far = by (int_le r.x0 x) refl
-  where
-    by : (t : Bool) → int_le r.x0 x ≡ t → ((t && int_lt x r.x1) && int_le r.y0 y) && int_lt y r.y1 ≡ false
-    by true e = absurd (let a = solid.left.0 in omega (arith, ints))
-    by false e = refl
-
-left_of_region : (rs : List Rect) (x y : ℤ) → All IsSolid rs → x <ℤ negsuc 1047999 → cover rs x y ≡ false
-left_of_region [] x y solid far = refl
-left_of_region (r ∷ rs) x y solid far =
-    ap (λ t. t || cover rs x y) (left_of_rect r x y (solid 0 r (omega arith)) far)
-    ∙ left_of_region rs x y (λ k d below. solid (suc k) d (omega arith)) far
-
--- a region, its fragments, and lines that have not moved
-pub record IsUnmoved (rects : List Rect) (fs : List Fragment) (offsets : List ℤ) : Type 0 where
-  pub canonical : AreCanonical rects
-  pub within : All (IsRectWithin 1048000) rects
-  pub list : IsFragmentList fs
-  pub boundary : IsBoundary (cover rects) fs
-  pub zero : (k : ℕ) → get_or offsets k (pos 0) ≡ pos 0
-
-unmoved_count : (rects : List Rect) (fs : List Fragment) (offsets : List ℤ) (x y : ℤ) → IsUnmoved rects fs offsets
-    → count fs (lines fs offsets) x y ≡ (if cover rects x y then pos 1 else pos 0)
-unmoved_count rects fs offsets x y unmoved =
-    count-at_rest (cover rects) fs (lines fs offsets) (negsuc 1048000) x y unmoved.list.outline (at_rest_without_offsets fs offsets unmoved.zero) unmoved.boundary
-    (λ k below. inl (let e = unmoved.list.edge_within k below in let l = e.0 in omega (arith, ints)))
-    (λ a b left. left_of_region rects a b (canonical_apart rects unmoved.canonical unmoved.within).solid (omega (arith, ints)))
-
--- Where no fragment has moved, the mask is the region.
-pub unmoved_mask : (rects : List Rect) (fs : List Fragment) (offsets : List ℤ) (x y : ℤ) → IsUnmoved rects fs offsets
-    → mask fs (lines fs offsets) x y ≡ cover rects x y
-unmoved_mask rects fs offsets x y unmoved =
-    mask-at_rest (cover rects) fs (lines fs offsets) (negsuc 1048000) x y unmoved.list.outline (at_rest_without_offsets fs offsets unmoved.zero) unmoved.boundary
-    (λ k below. inl (let e = unmoved.list.edge_within k below in let l = e.0 in omega (arith, ints)))
-    (λ a b left. left_of_region rects a b (canonical_apart rects unmoved.canonical unmoved.within).solid (omega (arith, ints)))
 
 -- ---- the outline does not cross itself
 
@@ -171,26 +129,6 @@ unmoved_crosses rects fs offsets unmoved x y crosses = by crosses
 
 -- ---- all rules
 
-unmoved_ends : (fs : List Fragment) (line : ℕ → ℤ) (k : ℕ) → IsFragmentList fs → AtRest fs line → k < length fs
-    → (low_end fs line k ≡ (fragment_at fs k).lo) × (high_end fs line k ≡ (fragment_at fs k).hi)
-unmoved_ends fs line k list rest below = by (is_rising (side_of fs k)) refl
-  where
-    by : (r : Bool) → is_rising (side_of fs k) ≡ r → (low_end fs line k ≡ (fragment_at fs k).lo) × (high_end fs line k ≡ (fragment_at fs k).hi)
-    by true e = (
-      subst (λ (r : Bool). end_at line (if r then (fragment_at fs k).low else (fragment_at fs k).high) (if r then (fragment_at fs k).lo else (fragment_at fs k).hi) ≡ (if r then (fragment_at fs k).lo else (fragment_at fs k).hi)) e (start_at_rest fs line k list.outline rest below),
-      subst (λ (r : Bool). end_at line (if r then (fragment_at fs k).high else (fragment_at fs k).low) (if r then (fragment_at fs k).hi else (fragment_at fs k).lo) ≡ (if r then (fragment_at fs k).hi else (fragment_at fs k).lo)) e (finish_at_rest fs line k list.outline rest below),
-    )
-    by false e = (
-      subst (λ (r : Bool). end_at line (if r then (fragment_at fs k).high else (fragment_at fs k).low) (if r then (fragment_at fs k).hi else (fragment_at fs k).lo) ≡ (if r then (fragment_at fs k).hi else (fragment_at fs k).lo)) e (finish_at_rest fs line k list.outline rest below),
-      subst (λ (r : Bool). end_at line (if r then (fragment_at fs k).low else (fragment_at fs k).high) (if r then (fragment_at fs k).lo else (fragment_at fs k).hi) ≡ (if r then (fragment_at fs k).lo else (fragment_at fs k).hi)) e (start_at_rest fs line k list.outline rest below),
-    )
-
--- the target keeps the rules of runs and corners
-pub record KeepsTarget (rules : MaskRules) (inside : PixelSet) : Type 0 where
-  pub widths : (x y : ℤ) → ¬ IsTooNarrow inside rules.width x y
-  pub spaces : (x y : ℤ) → ¬ IsTooNarrow (outside inside) rules.space x y
-  pub corners : (x y : ℤ) → ¬ IsCornerTouch inside x y
-
 -- Where no fragment has moved and the target keeps the rules of runs and corners, the mask keeps all rules.
 pub unmoved_keeps : (rules : MaskRules) (rects : List Rect) (fs : List Fragment) (offsets : List ℤ) → IsUnmoved rects fs offsets
     → KeepsTarget rules (cover rects) → KeepsRules rules fs offsets
@@ -212,9 +150,9 @@ unmoved_keeps rules rects fs offsets unmoved target = by
         let low = ends.0 in let high = ends.1 in let some = unmoved.list.some k h.0 in
         h.1 (omega (arith, ints))
     by M0 (Pixel p) h = unmoved_crosses rects fs offsets unmoved p.x p.y h
-    by M1 (Pixel p) h = kept.widths p.x p.y h
-    by M2 (Pixel p) h = kept.spaces p.x p.y h
-    by M3 (Pixel p) h = kept.corners p.x p.y h
+    by M1 (Pixel p) h = kept M1 (Pixel p) h
+    by M2 (Pixel p) h = kept M2 (Pixel p) h
+    by M3 (Pixel p) h = kept M3 (Pixel p) h
     by M5 (Pixel p) h = h
     by M4 (Pixel p) h = h
     by M0 (FragmentNumber k) h = h

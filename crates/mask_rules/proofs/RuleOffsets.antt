@@ -5,6 +5,7 @@ use Rattle.opc_base.specs.declared.rules.MaskRules.{MaskRules}
 use Rattle.opc_base.specs.declared.broken.RuleName.TheVariants.{M5}
 use Rattle.opc_base.specs.declared.broken.Place.TheVariants.{Fragment as FragmentNumber}
 use Rattle.outline_model.specs.declared.fragment.Fragment.{Fragment}
+use Rattle.outline_model.specs.Limits.{IsOffsets}
 use Rattle.outline_model.specs.Rules.{KeepsRules}
 use Rattle.mask_rules.specs.Placements.{IsNearOffset}
 
@@ -18,3 +19,9 @@ near_of_rules rules fs offsets reach keeps inward outward k below =
     by true true e f = (omega (arith, ints), omega (arith, ints))
     by false t e f = absurd (keeps M5 (FragmentNumber k) (below, λ r. (let l = r.0 in omega (arith, ints))))
     by true false e f = absurd (keeps M5 (FragmentNumber k) (below, λ r. (let l = r.1 in omega (arith, ints))))
+
+pub offsets_of_rules : (rules : MaskRules) (fs : List Fragment) (offsets : List ℤ) → length offsets ≡ length fs → KeepsRules rules fs offsets → IsOffsets fs offsets
+offsets_of_rules rules fs offsets one_each keeps = record {
+  one_each = one_each;
+  within = near_of_rules rules fs offsets (pos 128) keeps rules.max_in_in_range.1 rules.max_out_in_range.1;
+}

@@ -4,7 +4,8 @@ use Rattle.std.proofs.lemmas.Int.{ints}
 use Rattle.opc_base.specs.Runs.{LiesInShortRun, IsCornerTouch}
 use Rattle.mask_rules.specs.Clashes.{of_colour}
 use Rattle.mask_rules.specs.declared.stretch.Stretch.{Stretch}
-use Rattle.mask_rules.specs.Stretches.{Spans, turned, IsDrawn}
+use Rattle.outline_model.specs.Edges.{seen}
+use Rattle.mask_rules.specs.Stretches.{Spans, IsDrawn}
 use Rattle.mask_rules.proofs.Lines.{upward, apart_is_not, not_apart, not_not}
 
 pub of_colour-true : (c b : Bool) → b ≡ c → of_colour c b ≡ true
@@ -36,9 +37,9 @@ pub record IsPair (p q : Stretch) (c : Bool) (least t : ℤ) : Type 0 where
 
 pub run_of_pair : (inside : ℤ → ℤ → Bool) (n : ℕ) (s : Bool → ℕ → Stretch) → IsDrawn inside n s
     → (v c : Bool) (j k : ℕ) (least t : ℤ) → j < n → k < n → IsPair (s v j) (s v k) c least t
-    → LiesInShortRun (λ a. of_colour c (turned v inside a t)) least (s v j).at
+    → LiesInShortRun (λ a. of_colour c (seen v inside a t)) least (s v j).at
 run_of_pair inside n s drawn v c j k least t j_below k_below pair =
-    elim (upward (λ a. turned v inside a t) (s v j).at (s v k).at (let less = pair.apart in omega (arith, ints))) [
+    elim (upward (λ a. seen v inside a t) (s v j).at (s v k).at (let less = pair.apart in omega (arith, ints))) [
       | inl same ↦ absurd (not_apart _ _ (past ∙ ap not (sym here)) (same (s v k).at (let less = pair.apart in omega (arith, ints)) (omega (arith, ints))))
       | inr change ↦
           let z = change.0 in
@@ -60,13 +61,13 @@ run_of_pair inside n s drawn v c j k least t j_below k_below pair =
           }
     ]
   where
-    here : turned v inside (s v j).at t ≡ c
+    here : seen v inside (s v j).at t ≡ c
     here = (drawn.faces v j t j_below pair.first).0 ∙ pair.opens
 
-    before : turned v inside ((s v j).at -ℤ pos 1) t ≡ not c
+    before : seen v inside ((s v j).at -ℤ pos 1) t ≡ not c
     before = (drawn.faces v j t j_below pair.first).1 ∙ ap not pair.opens
 
-    past : turned v inside (s v k).at t ≡ not c
+    past : seen v inside (s v k).at t ≡ not c
     past = (drawn.faces v k t k_below pair.second).0 ∙ pair.closes
 
 pub record PairAt (n : ℕ) (s : Bool → ℕ → Stretch) (v c : Bool) (least a t : ℤ) : Type 0 where
@@ -78,7 +79,7 @@ pub record PairAt (n : ℕ) (s : Bool → ℕ → Stretch) (v c : Bool) (least a
   pub from : (s v j).at ≤ℤ a
 
 pub pair_of_run : (inside : ℤ → ℤ → Bool) (n : ℕ) (s : Bool → ℕ → Stretch) → IsDrawn inside n s
-    → (v c : Bool) (least a t : ℤ) → LiesInShortRun (λ b. of_colour c (turned v inside b t)) least a → PairAt n s v c least a t
+    → (v c : Bool) (least a t : ℤ) → LiesInShortRun (λ b. of_colour c (seen v inside b t)) least a → PairAt n s v c least a t
 pair_of_run inside n s drawn v c least a t short =
     let start = drawn.all v short.first t (not_apart _ _ (here ∙ sym (not_not c) ∙ ap not (sym before))) in
     let stop = drawn.all v short.past t (not_apart _ _ (past ∙ ap not (sym last))) in
@@ -93,8 +94,8 @@ pair_of_run inside n s drawn v c least a t short =
       j_below = start.1;
       k_below = stop.1;
       pair = record {
-        opens = sym (drawn.faces v start.0 t start.1 start.3).0 ∙ ap (λ b. turned v inside b t) start_at ∙ here;
-        closes = sym (drawn.faces v stop.0 t stop.1 stop.3).0 ∙ ap (λ b. turned v inside b t) stop_at ∙ past;
+        opens = sym (drawn.faces v start.0 t start.1 start.3).0 ∙ ap (λ b. seen v inside b t) start_at ∙ here;
+        closes = sym (drawn.faces v stop.0 t stop.1 stop.3).0 ∙ ap (λ b. seen v inside b t) stop_at ∙ past;
         apart = omega (arith, ints);
         short = omega (arith, ints);
         first = start.3;
@@ -103,16 +104,16 @@ pair_of_run inside n s drawn v c least a t short =
       from = omega (arith, ints);
     }
   where
-    here : turned v inside short.first t ≡ c
+    here : seen v inside short.first t ≡ c
     here = colour-true c _ (short.run.all short.first (omega (arith, ints)) short.run.some)
 
-    before : turned v inside (short.first -ℤ pos 1) t ≡ not c
+    before : seen v inside (short.first -ℤ pos 1) t ≡ not c
     before = colour-false c _ short.run.before
 
-    past : turned v inside short.past t ≡ not c
+    past : seen v inside short.past t ≡ not c
     past = colour-false c _ short.run.after
 
-    last : turned v inside (short.past -ℤ pos 1) t ≡ c
+    last : seen v inside (short.past -ℤ pos 1) t ≡ c
     last = colour-true c _ (short.run.all (short.past -ℤ pos 1) (let some = short.run.some in omega (arith, ints)) (omega (arith, ints)))
 
 -- ---- corners

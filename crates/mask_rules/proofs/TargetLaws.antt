@@ -1,5 +1,5 @@
 -- The first broken rule of a target, from the first pixel of each.
-use Rattle.std.proofs.Common.{◌≡◌, ◌⊎◌, inl, inr, ℕ, ◌<◌, ◌≤ℤ◌, ◌<ℤ◌, Option, Some, None, refl, arith}
+use Rattle.std.proofs.Common.{inl, inr, ◌<◌, Option, Some, None, refl, arith}
 use Rattle.std.specs.Prelude.{IfSome, IsNone, ◌↔◌}
 use Rattle.std.proofs.lemmas.Int.{ints}
 use Rattle.opc_base.specs.declared.plane.Pix.{Pix}
@@ -10,7 +10,7 @@ use Rattle.opc_base.specs.declared.broken.RuleName.TheVariants.{M0, M1, M2, M3, 
 use Rattle.opc_base.specs.declared.broken.Place.{Place}
 use Rattle.opc_base.specs.declared.broken.Place.TheVariants.{Pixel, Fragment as FragmentNumber}
 use Rattle.opc_base.specs.Plane.{PixelSet, outside}
-use Rattle.opc_base.specs.Runs.{IsCornerTouch, IsTooNarrow}
+use Rattle.opc_base.specs.Runs.{IsTooNarrow}
 use Rattle.outline_model.specs.Rules.{ComesBefore, rank}
 use Rattle.rect_union.specs.Touches.{IsFirstTouch}
 use Rattle.mask_rules.specs.First.{IsFirst, IsUpTo}

@@ -9,16 +9,15 @@ use Rattle.opc_base.specs.declared.broken.RuleName.TheVariants.{M0, M1, M2, M3, 
 use Rattle.opc_base.specs.declared.plane.Pix.{Pix}
 use Rattle.opc_base.specs.declared.broken.Place.{Place}
 use Rattle.opc_base.specs.declared.broken.Place.TheVariants.{Pixel, Fragment as FragmentNumber}
-use Rattle.outline_model.specs.Outline.{IsOutline, lines, next, previous}
-use Rattle.outline_model.specs.Rules.{Breaks, KeepsRules, IsFirstBroken, ComesBefore, rank}
-use Rattle.outline_model.proofs.RuleLocality.{broken_offset, broken_ends}
+use Rattle.outline_model.specs.Outline.{IsOutline, high_end, lines, low_end, next, previous}
+use Rattle.outline_model.specs.Rules.{Breaks, IsNearMove, KeepsRules, IsFirstBroken, NoneCrosses, ComesBefore, rank}
+use Rattle.outline_model.proofs.RuleLocality.{broken_ends, broken_near_move, broken_offset}
 use Rattle.opc_base.specs.declared.broken.Broken.{Broken}
 use Rattle.mask_rules.specs.declared.clash.Clash.TheVariants.{Narrow, Touch}
 use Rattle.mask_rules.specs.Clashes.{ClashesNow}
 use Rattle.mask_rules.specs.First.{IsUpTo, ReachesUpTo, IsFirst}
-use Rattle.mask_rules.specs.Verdicts.{IsJudged, IsOrdered, NoneBreaks, broken_fragment, broken_pixel}
-use Rattle.mask_rules.specs.Sweeps.{NoneCrosses}
-use Rattle.mask_rules.specs.TargetRules.{verdict}
+use Rattle.mask_rules.specs.Verdicts.{IsJudged, IsOrdered, NoneBreaks, broken_fragment}
+use Rattle.mask_rules.specs.TargetRules.{at_pixel, verdict}
 use Rattle.mask_rules.proofs.Judged.{narrow_first, touch_first}
 use Rattle.mask_rules.proofs.OffsetMoves.{step_of}
 
@@ -99,8 +98,8 @@ judged_some rules fs offsets b is = record {
 
 pub judged_pixel : (rules : MaskRules) (fs : List Fragment) (offsets : List ℤ) (rule : RuleName) (p : Pix) (first : Option Pix)
     → IsFirst (λ q. Breaks rules fs offsets rule (Pixel q)) first → first ≡ Some p
-    → ((r : RuleName) → rank r < rank rule → NoneBreaks rules fs offsets r) → IsJudged rules fs offsets (Some (broken_pixel rule p))
-judged_pixel rules fs offsets rule p first is_first e before = judged_some rules fs offsets (broken_pixel rule p) (record {
+    → ((r : RuleName) → rank r < rank rule → NoneBreaks rules fs offsets r) → IsJudged rules fs offsets (Some (at_pixel rule p))
+judged_pixel rules fs offsets rule p first is_first e before = judged_some rules fs offsets (at_pixel rule p) (record {
   broken = is_first.is_one p e;
   rules_before = λ r q less. before r less q;
   places_before = by;
@@ -254,3 +253,11 @@ ordered_of a b h = by (int_lt a b) refl
     by : (t : Bool) → int_lt a b ≡ t → a <ℤ b
     by true e = omega (arith, ints)
     by false e = absurd (h (λ less. omega (arith, ints, e, less)))
+
+-- what is first broken after a move is near it
+pub judged_near : (rules : MaskRules) (fs : List Fragment) (offsets : List ℤ) (i : ℕ) (to : ℤ) (verdict : Option Broken) → IsOutline fs → i < length fs
+    → KeepsRules rules fs offsets → IsJudged rules fs (set offsets i to) verdict → IfSome verdict (λ b. IsNearMove rules fs offsets i to b.rule b.at)
+judged_near rules fs offsets i to None outline below keeps judged = tt
+judged_near rules fs offsets i to (Some b) outline below keeps judged =
+    let less = ordered_of (low_end fs (lines fs offsets) i) (high_end fs (lines fs offsets) i) (λ out. keeps M4 (FragmentNumber i) (below, out)) in
+    broken_near_move rules fs offsets i to b.rule b.at outline below (omega (arith, ints)) keeps (judged.broken b refl).broken

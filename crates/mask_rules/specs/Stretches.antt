@@ -4,6 +4,7 @@ use Rattle.std.specs.Int.{int_min, int_max}
 use Rattle.outline_model.specs.declared.fragment.Fragment.{Fragment}
 use Rattle.opc_base.specs.declared.plane.Rect.{Rect}
 use Rattle.opc_base.specs.declared.plane.Pix.{Pix}
+use Rattle.outline_model.specs.Edges.{seen}
 use Rattle.outline_model.specs.Outline.{Piece, vertical_piece, horizontal_piece}
 use Rattle.mask_rules.specs.declared.stretch.Stretch.{Stretch}
 
@@ -36,13 +37,9 @@ abbrev pub rect_at : Bool → ℤ → ℤ → ℤ → ℤ → Rect
 rect_at true first past low high = record { x0 = first; y0 = low; x1 = past; y1 = high }
 rect_at false first past low high = record { x0 = low; y0 = first; x1 = high; y1 = past }
 
-abbrev pub turned : Bool → (ℤ → ℤ → Bool) → ℤ → ℤ → Bool
-turned true inside a t = inside a t
-turned false inside a t = inside t a
-
 -- n stretches of each direction are where the set changes
 pub record IsDrawn (inside : ℤ → ℤ → Bool) (n : ℕ) (stretch : Bool → ℕ → Stretch) : Type 0 where
   pub faces : (v : Bool) (k : ℕ) (t : ℤ) → k < n → Spans (stretch v k) t
-      → (turned v inside (stretch v k).at t ≡ (stretch v k).opens) × (turned v inside ((stretch v k).at -ℤ pos 1) t ≡ not (stretch v k).opens)
-  pub all : (v : Bool) (a t : ℤ) → turned v inside a t ≢ turned v inside (a -ℤ pos 1) t
+      → (seen v inside (stretch v k).at t ≡ (stretch v k).opens) × (seen v inside ((stretch v k).at -ℤ pos 1) t ≡ not (stretch v k).opens)
+  pub all : (v : Bool) (a t : ℤ) → seen v inside a t ≢ seen v inside (a -ℤ pos 1) t
       → (k : ℕ) × (k < n) × ((stretch v k).at ≡ a) × Spans (stretch v k) t

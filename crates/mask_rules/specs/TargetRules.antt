@@ -1,24 +1,18 @@
 -- The rules of a target, and where one of them is broken.
-use Rattle.std.specs.Prelude.{ℕ, ◌<◌, Option, Some, None}
+use Rattle.std.specs.Prelude.{◌<◌, Option, Some, None}
 use Rattle.opc_base.specs.declared.plane.Pix.{Pix}
 use Rattle.opc_base.specs.declared.rules.MaskRules.{MaskRules}
 use Rattle.opc_base.specs.declared.broken.Broken.{Broken}
 use Rattle.opc_base.specs.declared.broken.RuleName.{RuleName}
-use Rattle.opc_base.specs.declared.broken.RuleName.TheVariants.{M0, M1, M2, M3, M4, M5}
+use Rattle.opc_base.specs.declared.broken.RuleName.TheVariants.{M1, M2, M3}
 use Rattle.opc_base.specs.declared.broken.Place.{Place}
 use Rattle.opc_base.specs.declared.broken.Place.TheVariants.{Pixel, Fragment as FragmentNumber}
-use Rattle.opc_base.specs.Plane.{PixelSet, outside}
-use Rattle.opc_base.specs.Runs.{IsCornerTouch, IsTooNarrow}
-use Rattle.outline_model.specs.Rules.{ComesBefore, rank}
+use Rattle.opc_base.specs.Plane.{PixelSet}
+use Rattle.outline_model.specs.Rules.{BreaksRuns, ComesBefore, rank}
 
--- M1: a covered run is too narrow.  M2: an uncovered run between covered pixels is.  M3: two pixels touch at a corner.
+-- a target is judged by its runs and corners, at pixels alone
 abbrev pub BreaksTarget : MaskRules → PixelSet → RuleName → Place → Type 0
-BreaksTarget rules pixels M1 (Pixel p) = IsTooNarrow pixels rules.width p.x p.y
-BreaksTarget rules pixels M2 (Pixel p) = IsTooNarrow (outside pixels) rules.space p.x p.y
-BreaksTarget rules pixels M3 (Pixel p) = IsCornerTouch pixels p.x p.y
-BreaksTarget rules pixels M0 (Pixel p) = ⊥
-BreaksTarget rules pixels M4 (Pixel p) = ⊥
-BreaksTarget rules pixels M5 (Pixel p) = ⊥
+BreaksTarget rules pixels rule (Pixel p) = BreaksRuns rules pixels rule p
 BreaksTarget rules pixels rule (FragmentNumber k) = ⊥
 
 -- the target keeps all of them

@@ -3,9 +3,8 @@ use Rattle.std.specs.Prelude.{◌≡◌, ℕ, ℤ, ◌<ℤ◌, Option, Some, Non
 use Rattle.outline_model.specs.declared.fragment.Fragment.{Fragment}
 use Rattle.opc_base.specs.declared.rules.MaskRules.{MaskRules}
 use Rattle.opc_base.specs.declared.broken.RuleName.{RuleName}
-use Rattle.opc_base.specs.declared.plane.Pix.{Pix}
 use Rattle.opc_base.specs.declared.broken.Place.{Place}
-use Rattle.opc_base.specs.declared.broken.Place.TheVariants.{Pixel, Fragment as FragmentNumber}
+use Rattle.opc_base.specs.declared.broken.Place.TheVariants.{Fragment as FragmentNumber}
 use Rattle.outline_model.specs.Outline.{low_end, high_end}
 use Rattle.outline_model.specs.Rules.{Breaks, IsFirstBroken, KeepsRules}
 use Rattle.opc_base.specs.declared.broken.Broken.{Broken}
@@ -15,9 +14,6 @@ IsOrdered fs line k = low_end fs line k <ℤ high_end fs line k
 
 abbrev pub broken_fragment : RuleName → ℕ → Broken
 broken_fragment rule k = record { rule = rule; at = FragmentNumber k }
-
-abbrev pub broken_pixel : RuleName → Pix → Broken
-broken_pixel rule p = record { rule = rule; at = Pixel p }
 
 -- no place breaks the rule
 abbrev pub NoneBreaks : MaskRules → List Fragment → List ℤ → RuleName → Type 0

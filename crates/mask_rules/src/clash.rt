@@ -1,3 +1,5 @@
+//! What two stretches of one direction can break, and where first.
+
 ghost use Rattle.std.specs.Prelude.{◌≡◌};
 ghost use Rattle.outline_model.specs.Ranges.{IsWithin};
 ghost use Rattle.mask_rules.specs.Clashes.{IsClash, around, clash_pixel, clash_place, clash_test, is_meeting, is_narrow, is_touching, of_colour, overlap};
@@ -12,7 +14,12 @@ pub enum Clash {
     /// They lie on one line and are of opposite sign.
     Meet,
     /// Between them are fewer than `least` pixels, all covered or all not covered.
-    Narrow { covered: bool, least: i32 },
+    Narrow {
+        /// Whether the pixels are covered.
+        covered: bool,
+        /// So many are enough.
+        least: i32,
+    },
     /// They lie on one line, are of opposite sign, and one ends where the other begins.
     Touch,
 }

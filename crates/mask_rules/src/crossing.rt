@@ -1,15 +1,21 @@
+//! The first pixel at which a move makes the outline cross or touch itself along a line.
+//!
+//! Where it meets itself, a stretch that the move changed is one of the two, so the clashes have the place. Where it
+//! crosses itself, the moved line has swept a pixel that was covered already, or that was not, and the count there is
+//! neither 0 nor 1.
+
 ghost use Rattle.std.specs.Prelude.{◌≡◌, ◌≢◌, ◌<ℤ◌, None, Some, if◌then◌else◌};
 ghost use Rattle.outline_model.specs.Limits.{IsFragmentList};
 ghost use Rattle.outline_model.specs.Ranges.{IsWithin};
 ghost use Rattle.outline_model.specs.Outline.{high_end, is_vertical, low_end, mask, side_of, swept};
-ghost use Rattle.outline_model.specs.Rules.{CrossesAt};
+ghost use Rattle.outline_model.specs.Rules.{CrossesAt, NoneCrosses};
 ghost use Rattle.mask_rules.specs.declared.clash.Clash.TheVariants.{Meet};
 ghost use Rattle.mask_rules.specs.Clashes.{ClashesNow};
 ghost use Rattle.mask_rules.specs.First.{IsFirst};
 ghost use Rattle.mask_rules.specs.Limits.{IsRectWithin};
 ghost use Rattle.mask_rules.specs.Placements.{IsNearOffset, IsPlacement, line_of, line_to};
 ghost use Rattle.mask_rules.specs.Spots.{lowest};
-ghost use Rattle.mask_rules.specs.Sweeps.{IsBeside, MiscountAt, NoneCrosses, corner_of};
+ghost use Rattle.mask_rules.specs.Sweeps.{IsBeside, MiscountAt, corner_of};
 
 use crate::first::earlier;
 use crate::placement::{Placement, end, line};

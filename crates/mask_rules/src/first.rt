@@ -37,6 +37,7 @@ pub struct Found {
     pub touch: Option<Pix>,
 }
 
+/// Nothing of any kind.
 pub fn none_found() -> Found
     ensures { result ≡ none_found }
 {

@@ -1,17 +1,19 @@
-ghost use Rattle.std.specs.Prelude.{◌≡◌, ◌≢◌, ◌^◌, ◌<◌, ◌⊎◌, ◌↔◌, ◌≤ℤ◌, ◌<ℤ◌, IfNone, IfSome, IsNone, IsTrue, length, neg_ℤ, slice_set};
-ghost use Rattle.outline_model.specs.Limits.{IsFragmentList, IsOffsets};
+//! The first rule that the move of one fragment breaks: its range, then the ends of its neighbours, then the rules of pixels.
+
+ghost use Rattle.std.specs.Prelude.{◌≡◌, ◌≢◌, ◌<◌, ◌⊎◌, ◌↔◌, ◌≤ℤ◌, IfNone, IfSome, IsNone, IsTrue, length, neg_ℤ, slice_set};
+ghost use Rattle.outline_model.specs.Limits.{IsFragmentList};
 ghost use Rattle.outline_model.specs.Ranges.{IsWithin};
-ghost use Rattle.outline_model.specs.Rules.{IsFirstBroken, KeepsRules};
+ghost use Rattle.outline_model.specs.Rules.{IsFirstBroken, IsNearMove, KeepsRules};
 ghost use Rattle.mask_rules.specs.Limits.{IsRules};
 ghost use Rattle.mask_rules.specs.Placements.{IsNearOffset, IsPlacement, line_of};
-ghost use Rattle.mask_rules.specs.Verdicts.{IsJudged, IsOrdered, NoneBreaks, broken_fragment, broken_pixel};
+ghost use Rattle.mask_rules.specs.Verdicts.{IsJudged, IsOrdered, NoneBreaks, broken_fragment};
 
 use crate::crossing::first_crossing;
 use crate::placement::{Placement, is_ordered};
 use crate::search::first_found;
-use crate::target_check::verdict;
+use crate::target_check::{at_pixel, verdict};
 use fragment::{Fragments, Near};
-use opc_base::{Broken, MaskRules, Pix, Place, RuleName};
+use opc_base::{Broken, MaskRules, Place, RuleName};
 
 fn is_in_range(rules: &MaskRules, to: i32) -> bool
     requires { IsRules rules.now }
@@ -48,15 +50,6 @@ fn at_fragment(rule: RuleName, k: u32) -> Broken
     Broken {
         rule,
         at: Place::Fragment(k),
-    }
-}
-
-fn at_pixel(rule: RuleName, pixel: Pix) -> Broken
-    ensures { result ≡ broken_pixel rule pixel }
-{
-    Broken {
-        rule,
-        at: Place::Pixel(pixel),
     }
 }
 
@@ -98,7 +91,8 @@ fn judge(present: &Placement, near: &Near, to: i32, rules: &MaskRules) -> Option
     requires moves { to ≢ present.now.to }
     requires kept { KeepsRules rules.now present.now.fragments.now present.now.offsets.now }
     requires keeps { KeepsRules rules.now present.now.fragments.now (slice_set present.now.offsets.now present.now.moved present.now.to) }
-    ensures { IsJudged rules.now present.now.fragments.now (slice_set present.now.offsets.now present.now.moved to) result }
+    ensures judged { IsJudged rules.now present.now.fragments.now (slice_set present.now.offsets.now present.now.moved to) result }
+    ensures list { IsFragmentList present.now.fragments.now }
 {
     let fragment = present.fragments.get(present.moved);
     if !is_in_range(rules, to) {
@@ -128,10 +122,13 @@ pub fn first_broken(
 ) -> Option<Broken>
     requires fragment { i < length fragments.now }
     requires near { near.now ≡ fragments.now }
-    requires offsets { IsOffsets fragments.now offsets.now }
+    requires offsets { length offsets.now ≡ length fragments.now }
     requires keeps { KeepsRules rules.now fragments.now offsets.now }
     ensures broken { IfSome result (λ b. IsFirstBroken rules.now fragments.now (slice_set offsets.now i to) b.rule b.at) }
     ensures kept { IsNone result ↔ KeepsRules rules.now fragments.now (slice_set offsets.now i to) }
+
+    // Only near the move can a rule come to be broken.
+    ensures near { IfSome result (λ b. IsNearMove rules.now fragments.now offsets.now i to b.rule b.at) }
 {
     let from = offsets[i as usize];
     if to == from {

@@ -1,6 +1,6 @@
 //! The rows and the columns of a set of pixels, and of what is not in it.
 
-ghost use Rattle.std.specs.Prelude.{◌≡◌, ◌≤ℤ◌, ◌+ℤ◌, ℤ, pos, All, IfOk};
+ghost use Rattle.std.specs.Prelude.{◌≡◌, ℤ, All, IfOk};
 ghost use Rattle.opc_base.specs.Canonical.{AreCanonical};
 ghost use Rattle.opc_base.specs.Corners.{quadrant_sum};
 ghost use Rattle.opc_base.specs.Plane.{IsRectWithin, cover};

@@ -1,3 +1,5 @@
+//! Fragments at their offsets, of which one is given apart, so that a move is judged without a list of its own.
+
 ghost use Rattle.std.specs.Prelude.{◌≡◌, ◌<◌, ◌↔◌, ◌<ℤ◌, IsTrue, length, not};
 ghost use Rattle.outline_model.specs.Limits.{IsFragmentList};
 ghost use Rattle.outline_model.specs.Ranges.{IsWithin};
@@ -13,9 +15,13 @@ use outline_model::is_vertical;
 /// Fragments at their offsets, but for one of them, which has another offset.
 #[derive(Clone, Copy)]
 pub struct Placement<'a> {
+    /// The fragments.
     pub fragments: &'a Fragments,
+    /// How far each has moved outward.
     pub offsets: &'a [i32],
+    /// The one that has another offset.
     pub moved: u32,
+    /// Its offset.
     pub to: i32,
     /// No offset is greater than this.
     pub reach: i32,

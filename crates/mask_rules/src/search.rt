@@ -1,3 +1,5 @@
+//! The first clash of each kind with a stretch that a move can have changed.
+
 ghost use Rattle.std.specs.Prelude.{◌≡◌, ◌<◌, ◌⊎◌, ◌↔◌, IsTrue, length};
 ghost use Rattle.mask_rules.specs.Clashes.{ClashesBeside, ClashesNow, ClashesOf, IsClash, pair_pixel};
 ghost use Rattle.mask_rules.specs.Found.{IsFound, pair_found};

@@ -1,6 +1,6 @@
 //! The first pixel that lies in a run which is too short.
 
-ghost use Rattle.std.specs.Prelude.{◌≡◌, ◌+ℤ◌, ◌<ℤ◌, ◌≤ℤ◌, ℤ, true, false, neg_ℤ, All, IfOk};
+ghost use Rattle.std.specs.Prelude.{◌≡◌, ◌+ℤ◌, ◌<ℤ◌, ◌≤ℤ◌, ℤ, true, false, All, IfOk};
 ghost use Rattle.opc_base.specs.Canonical.{AreCanonical};
 ghost use Rattle.opc_base.specs.Plane.{IsRectWithin, cover};
 ghost use Rattle.opc_base.specs.Runs.{IsTooNarrow};

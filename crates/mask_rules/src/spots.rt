@@ -1,6 +1,7 @@
+//! The first pixels of a rectangle after the stretches inside it.
+
 ghost use Rattle.std.specs.Prelude.{◌≡◌, ◌<◌, ◌<ℤ◌, true, false, if◌then◌else◌, length, not};
 ghost use Rattle.outline_model.specs.Limits.{IsFragmentList};
-ghost use Rattle.outline_model.specs.Ranges.{IsWithin};
 ghost use Rattle.mask_rules.specs.Limits.{IsRectWithin};
 ghost use Rattle.mask_rules.specs.Placements.{IsPlacement, line_of};
 ghost use Rattle.mask_rules.specs.Spots.{AreFirstSpots, is_ahead, is_inside, lowest, spot_pixel};

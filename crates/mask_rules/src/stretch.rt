@@ -1,3 +1,5 @@
+//! What a fragment gives to the outline in one direction.
+
 ghost use Rattle.std.specs.Prelude.{◌≡◌};
 ghost use Rattle.outline_model.specs.Ranges.{IsWithin};
 ghost use Rattle.mask_rules.specs.Stretches.{pixel_at, rect_at, walked};
@@ -10,7 +12,9 @@ use opc_base::{Pix, Rect};
 pub struct Stretch {
     /// Where it lies across its direction.
     pub at: i32,
+    /// Its low end along its direction.
     pub low: i32,
+    /// Its high end along its direction.
     pub high: i32,
     /// Whether the inside is on its side of greater coordinates.
     pub opens: bool,

@@ -39,7 +39,8 @@ pub fn verdict(narrow: Option<Pix>, tight: Option<Pix>, touch: Option<Pix>) -> O
     }
 }
 
-fn at_pixel(rule: RuleName, pixel: Pix) -> Broken
+/// The rule is broken at this pixel.
+pub fn at_pixel(rule: RuleName, pixel: Pix) -> Broken
     ensures { result ≡ at_pixel rule pixel }
 {
     Broken {

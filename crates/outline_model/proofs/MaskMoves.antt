@@ -4,7 +4,7 @@ use Rattle.std.specs.Ordering.{int_eq}
 use Rattle.std.proofs.lemmas.Int.{ints}
 use Rattle.outline_model.specs.declared.fragment.Fragment.{Fragment}
 use Rattle.opc_base.specs.declared.moves.Swept.{Swept}
-use Rattle.outline_model.specs.Rules.{CrossesAt, NoneCrosses}
+use Rattle.outline_model.specs.Rules.{NoneCrosses}
 use Rattle.outline_model.specs.Outline.{IsOutline, IsSweep, DiffersOnlyAt, side_of, low_end, high_end, count, mask, swept, is_outward}
 use Rattle.opc_base.specs.Plane.{rect_cover}
 use Rattle.std.proofs.lemmas.Bool.Decides.{Decides-int_eq}
@@ -62,28 +62,6 @@ shrinks old new false was is e = elim was [
   | inr one_then ↦ (let now : new ≡ pos 1 = omega (arith, ints) in rw (now, one_then) refl)
 ]
 
--- A move outward: the new mask is the old one with the swept rectangle.
-pub mask-outward : (fs : List Fragment) (line line' : ℕ → ℤ) (i : ℕ) (x y : ℤ)
-    → IsOutline fs → i < length fs → DiffersOnlyAt i line line' → low_end fs line i ≤ℤ high_end fs line i
-    → IsSingle (count fs line x y) → IsSingle (count fs line' x y)
-    → is_outward (side_of fs i) (line i) (line' i) ≡ true
-    → mask fs line' x y ≡ (mask fs line x y || rect_cover (swept fs line i (line' i)) x y)
-mask-outward fs line line' i x y outline below others ordered was is out =
-    grows (count fs line x y) (count fs line' x y) (rect_cover (swept fs line i (line' i)) x y) was is
-    (count-move fs line line' i x y outline below others ordered
-    ∙ ap (λ (t : Bool). count fs line x y +ℤ (if rect_cover (swept fs line i (line' i)) x y then (if t then pos 1 else negsuc 0) else pos 0)) out)
-
--- A move inward: the new mask is the old one without the swept rectangle.
-pub mask-inward : (fs : List Fragment) (line line' : ℕ → ℤ) (i : ℕ) (x y : ℤ)
-    → IsOutline fs → i < length fs → DiffersOnlyAt i line line' → low_end fs line i ≤ℤ high_end fs line i
-    → IsSingle (count fs line x y) → IsSingle (count fs line' x y)
-    → is_outward (side_of fs i) (line i) (line' i) ≡ false
-    → mask fs line' x y ≡ (mask fs line x y && not (rect_cover (swept fs line i (line' i)) x y))
-mask-inward fs line line' i x y outline below others ordered was is out =
-    shrinks (count fs line x y) (count fs line' x y) (rect_cover (swept fs line i (line' i)) x y) was is
-    (count-move fs line line' i x y outline below others ordered
-    ∙ ap (λ (t : Bool). count fs line x y +ℤ (if rect_cover (swept fs line i (line' i)) x y then (if t then pos 1 else negsuc 0) else pos 0)) out)
-
 -- Of the rectangle, nothing was in the mask before a move outward, and all of it before a move inward.
 pub swept-free : (old new : ℤ) → IsSingle old → IsSingle new → new ≡ old +ℤ pos 1 → int_eq old (pos 1) ≡ false
 swept-free old new was is e = elim was [
@@ -104,7 +82,7 @@ swept-covered old new was is e = elim was [
 ]
 
 -- where the outline does not cross itself, a count is 0 or 1
-single_count : (fs : List Fragment) (line : ℕ → ℤ) (x y : ℤ) → NoneCrosses fs line → IsSingle (count fs line x y)
+pub single_count : (fs : List Fragment) (line : ℕ → ℤ) (x y : ℤ) → NoneCrosses fs line → IsSingle (count fs line x y)
 single_count fs line x y none = by (int_eq (count fs line x y) (pos 0)) (int_eq (count fs line x y) (pos 1)) refl refl
   where
     by : (p q : Bool) → int_eq (count fs line x y) (pos 0) ≡ p → int_eq (count fs line x y) (pos 1) ≡ q → IsSingle (count fs line x y)

@@ -11,11 +11,12 @@ use Rattle.opc_base.specs.declared.rules.MaskRules.{MaskRules}
 use Rattle.opc_base.specs.declared.broken.RuleName.{RuleName}
 use Rattle.opc_base.specs.declared.broken.RuleName.TheVariants.{M0, M1, M2, M3, M4, M5}
 use Rattle.opc_base.specs.declared.plane.Pix.{Pix}
+use Rattle.opc_base.specs.declared.broken.Place.{Place}
 use Rattle.opc_base.specs.declared.broken.Place.TheVariants.{Pixel, Fragment as FragmentNumber}
 use Rattle.outline_model.specs.Near.{IsNear}
 use Rattle.outline_model.specs.Outline.{Piece, IsOutline, DiffersOnlyAt, side_of, low_end, high_end, own_piece, jog, vertical_piece, horizontal_piece, lines, fragment_at, end_at, start_place, finish_place, joined, next, previous, start_join, finish_join, is_rising, mask, swept}
 use Rattle.opc_base.specs.Plane.{rect_cover}
-use Rattle.outline_model.specs.Rules.{FallsOn, RisesOn, LeftwardOn, RightwardOn, CrossesAt, Breaks, KeepsRules, reach_of}
+use Rattle.outline_model.specs.Rules.{FallsOn, RisesOn, LeftwardOn, RightwardOn, CrossesAt, Breaks, IsNearMove, KeepsRules, reach_of}
 use Rattle.outline_model.proofs.Walk.{stands, start_corner_back}
 use Rattle.outline_model.proofs.Moves.{own_stays}
 use Rattle.outline_model.proofs.Crossings.{StandsUp, StandsDown, IsBetween, IsBesideAcross, IsBesideAlong, own_up_across, own_down_across, jog_up_across, jog_down_across, jog_up_along, jog_down_along, moved_up, moved_down}
@@ -343,3 +344,18 @@ broken_ends rules fs offsets i to k outline keeps broken = elim (eqb_tells k (pr
         ))
   ]
 ]
+
+-- ---- all rules
+
+-- A place that breaks a rule that held is near the move.
+pub broken_near_move : (rules : MaskRules) (fs : List Fragment) (offsets : List ℤ) (i : ℕ) (to : ℤ) (rule : RuleName) (place : Place)
+    → IsOutline fs → i < length fs → low_end fs (lines fs offsets) i ≤ℤ high_end fs (lines fs offsets) i
+    → KeepsRules rules fs offsets → Breaks rules fs (set offsets i to) rule place → IsNearMove rules fs offsets i to rule place
+broken_near_move rules fs offsets i to rule (Pixel p) outline below ordered keeps broken =
+    broken_near rules fs offsets i to rule p outline below ordered keeps broken
+broken_near_move rules fs offsets i to M5 (FragmentNumber k) outline below ordered keeps broken = broken_offset rules fs offsets i to k keeps broken
+broken_near_move rules fs offsets i to M4 (FragmentNumber k) outline below ordered keeps broken = broken_ends rules fs offsets i to k outline keeps broken
+broken_near_move rules fs offsets i to M0 (FragmentNumber k) outline below ordered keeps broken = broken
+broken_near_move rules fs offsets i to M1 (FragmentNumber k) outline below ordered keeps broken = broken
+broken_near_move rules fs offsets i to M2 (FragmentNumber k) outline below ordered keeps broken = broken
+broken_near_move rules fs offsets i to M3 (FragmentNumber k) outline below ordered keeps broken = broken

@@ -262,14 +262,15 @@ finishes_once_at inside fs j k Up Up x y boundary none j_below k_below e f at to
     boundary.level_once j k x y j_below k_below
     (last_side Up (fragment_at fs j) x y e at (boundary.some j j_below)) (last_side Up (fragment_at fs k) x y f to (boundary.some k k_below))
 
-starts_once : (inside : ℤ → ℤ → Bool) (fs : List Fragment) (j k : ℕ) → IsBoundary inside fs → ((x y : ℤ) → ¬ IsCornerTouch inside x y)
+-- Where no pixels touch at a corner only, no two fragments start at one point, and no two finish there.
+pub starts_once : (inside : ℤ → ℤ → Bool) (fs : List Fragment) (j k : ℕ) → IsBoundary inside fs → ((x y : ℤ) → ¬ IsCornerTouch inside x y)
     → j < length fs → k < length fs → start_point (fragment_at fs j) ≡ start_point (fragment_at fs k) → j ≡ k
 starts_once inside fs j k boundary none j_below k_below e =
     let f = fragment_at fs j in let g = fragment_at fs k in let p = start_point g in
     starts_once_at inside fs j k f.side g.side p.x p.y boundary none j_below k_below refl refl
     (starts_at f.side f.edge f.lo f.hi p.x p.y e) (starts_at g.side g.edge g.lo g.hi p.x p.y refl)
 
-finishes_once : (inside : ℤ → ℤ → Bool) (fs : List Fragment) (j k : ℕ) → IsBoundary inside fs → ((x y : ℤ) → ¬ IsCornerTouch inside x y)
+pub finishes_once : (inside : ℤ → ℤ → Bool) (fs : List Fragment) (j k : ℕ) → IsBoundary inside fs → ((x y : ℤ) → ¬ IsCornerTouch inside x y)
     → j < length fs → k < length fs → finish_point (fragment_at fs j) ≡ finish_point (fragment_at fs k) → j ≡ k
 finishes_once inside fs j k boundary none j_below k_below e =
     let f = fragment_at fs j in let g = fragment_at fs k in let p = finish_point g in

@@ -1,14 +1,18 @@
 -- Where no fragment has moved, the mask is the target.
-use Rattle.std.proofs.Common.{◌≡◌, ◌≢◌, ◌⊎◌, inl, inr, ℕ, zero, suc, ◌<◌, ℤ, pos, negsuc, ◌+ℤ◌, ◌-ℤ◌, ◌≤ℤ◌, ◌<ℤ◌, Bool, true, false, not, if◌then◌else◌, List, length, get_or, int_le, refl, sym, ◌∙◌, ap, subst, arith}
+use Rattle.std.proofs.Common.{◌≡◌, ◌≢◌, ◌⊎◌, inl, inr, ℕ, zero, suc, ◌<◌, ◌≤◌, ℤ, pos, negsuc, ◌+ℤ◌, ◌-ℤ◌, ◌≤ℤ◌, ◌<ℤ◌, Bool, true, false, not, ◌&&◌, ◌||◌, if◌then◌else◌, List, [], ◌∷◌, length, get_or, replicate, All, int_le, int_lt, unsigned_abs, refl, sym, ◌∙◌, ap, subst, arith}
 use Rattle.std.specs.Ordering.{int_eq}
 use Rattle.std.proofs.lemmas.Int.{ints}
 use Rattle.std.proofs.lemmas.Bool.Decides.{Decides-int_eq}
+use Rattle.opc_base.specs.declared.plane.Rect.{Rect}
 use Rattle.opc_base.specs.declared.plane.Side.{Side}
 use Rattle.opc_base.specs.declared.plane.Side.TheVariants.{Left, Right, Down, Up}
+use Rattle.opc_base.specs.Canonical.{AreCanonical}
+use Rattle.opc_base.specs.Plane.{IsRectWithin, cover, rect_cover}
 use Rattle.outline_model.specs.declared.fragment.Join.{Join}
 use Rattle.outline_model.specs.declared.fragment.Join.TheVariants.{Cut, Corner}
 use Rattle.outline_model.specs.declared.fragment.Fragment.{Fragment}
-use Rattle.outline_model.specs.Outline.{Point, Piece, IsOutline, fragment_at, side_of, outward, lines, is_vertical, is_rising, end_at, start_join, start_place, finish_join, finish_place, joined, start, finish, own_piece, jog, vertical_piece, step, crossing, count, mask, total}
+use Rattle.outline_model.specs.Limits.{IsFragmentList}
+use Rattle.outline_model.specs.Outline.{Point, Piece, IsOutline, fragment_at, side_of, outward, lines, low_end, high_end, is_vertical, is_rising, end_at, start_join, start_place, finish_join, finish_place, joined, start, finish, own_piece, jog, vertical_piece, step, crossing, count, mask, total}
 use Rattle.outline_model.specs.Target.{IsBoundary, LiesLeftOf, opens}
 use Rattle.outline_model.proofs.Totals.{total-equal, total-zero, total-one}
 use Rattle.outline_model.proofs.Walk.{placed, stands, start_corner_back, start_is, finish_is, jog_at_cut, jog_at_corner}
@@ -283,3 +287,65 @@ mask-at_rest inside fs line low x y outline rest boundary right_of outside_left 
     by : (b : Bool) → int_eq (if b then pos 1 else pos 0) (pos 1) ≡ b
     by true = refl
     by false = refl
+
+-- ---- a region
+
+within_limit : (z : ℤ) → unsigned_abs z ≤ 1048000 → negsuc 1047999 ≤ℤ z
+within_limit (pos n) h = omega (arith, ints)
+within_limit (negsuc n) h = omega (arith, ints)
+
+left_of_rect : (r : Rect) (x y : ℤ) → IsRectWithin 1048000 r → x <ℤ negsuc 1047999 → rect_cover r x y ≡ false
+left_of_rect r x y within far = by (int_le r.x0 x) refl
+  where
+    by : (t : Bool) → int_le r.x0 x ≡ t → ((t && int_lt x r.x1) && int_le r.y0 y) && int_lt y r.y1 ≡ false
+    by true e = absurd (let a = within_limit r.x0 within.0 in omega (arith, ints))
+    by false e = refl
+
+left_of_region : (rs : List Rect) (x y : ℤ) → All (IsRectWithin 1048000) rs → x <ℤ negsuc 1047999 → cover rs x y ≡ false
+left_of_region [] x y within far = refl
+left_of_region (r ∷ rs) x y within far =
+    ap (λ t. t || cover rs x y) (left_of_rect r x y (within 0 r (omega arith)) far)
+    ∙ left_of_region rs x y (λ k d below. within (suc k) d (omega arith)) far
+
+-- a region, its fragments, and lines that have not moved
+pub record IsUnmoved (rects : List Rect) (fs : List Fragment) (offsets : List ℤ) : Type 0 where
+  pub canonical : AreCanonical rects
+  pub within : All (IsRectWithin 1048000) rects
+  pub list : IsFragmentList fs
+  pub boundary : IsBoundary (cover rects) fs
+  pub zero : (k : ℕ) → get_or offsets k (pos 0) ≡ pos 0
+
+pub unmoved_count : (rects : List Rect) (fs : List Fragment) (offsets : List ℤ) (x y : ℤ) → IsUnmoved rects fs offsets
+    → count fs (lines fs offsets) x y ≡ (if cover rects x y then pos 1 else pos 0)
+unmoved_count rects fs offsets x y unmoved =
+    count-at_rest (cover rects) fs (lines fs offsets) (negsuc 1048000) x y unmoved.list.outline (at_rest_without_offsets fs offsets unmoved.zero) unmoved.boundary
+    (λ k below. inl (let e = unmoved.list.edge_within k below in let l = e.0 in omega (arith, ints)))
+    (λ a b left. left_of_region rects a b unmoved.within (omega (arith, ints)))
+
+-- Where no fragment has moved, the mask is the region.
+pub unmoved_mask : (rects : List Rect) (fs : List Fragment) (offsets : List ℤ) (x y : ℤ) → IsUnmoved rects fs offsets
+    → mask fs (lines fs offsets) x y ≡ cover rects x y
+unmoved_mask rects fs offsets x y unmoved =
+    mask-at_rest (cover rects) fs (lines fs offsets) (negsuc 1048000) x y unmoved.list.outline (at_rest_without_offsets fs offsets unmoved.zero) unmoved.boundary
+    (λ k below. inl (let e = unmoved.list.edge_within k below in let l = e.0 in omega (arith, ints)))
+    (λ a b left. left_of_region rects a b unmoved.within (omega (arith, ints)))
+
+pub get_or-zeros : (n k : ℕ) → get_or (replicate n (pos 0)) k (pos 0) ≡ pos 0
+get_or-zeros zero k = refl
+get_or-zeros (suc n) zero = refl
+get_or-zeros (suc n) (suc k) = get_or-zeros n k
+
+-- the ends of a fragment that has not moved are its places on the target
+pub unmoved_ends : (fs : List Fragment) (line : ℕ → ℤ) (k : ℕ) → IsFragmentList fs → AtRest fs line → k < length fs
+    → (low_end fs line k ≡ (fragment_at fs k).lo) × (high_end fs line k ≡ (fragment_at fs k).hi)
+unmoved_ends fs line k list rest below = by (is_rising (side_of fs k)) refl
+  where
+    by : (r : Bool) → is_rising (side_of fs k) ≡ r → (low_end fs line k ≡ (fragment_at fs k).lo) × (high_end fs line k ≡ (fragment_at fs k).hi)
+    by true e = (
+      subst (λ (r : Bool). end_at line (if r then (fragment_at fs k).low else (fragment_at fs k).high) (if r then (fragment_at fs k).lo else (fragment_at fs k).hi) ≡ (if r then (fragment_at fs k).lo else (fragment_at fs k).hi)) e (start_at_rest fs line k list.outline rest below),
+      subst (λ (r : Bool). end_at line (if r then (fragment_at fs k).high else (fragment_at fs k).low) (if r then (fragment_at fs k).hi else (fragment_at fs k).lo) ≡ (if r then (fragment_at fs k).hi else (fragment_at fs k).lo)) e (finish_at_rest fs line k list.outline rest below),
+    )
+    by false e = (
+      subst (λ (r : Bool). end_at line (if r then (fragment_at fs k).high else (fragment_at fs k).low) (if r then (fragment_at fs k).hi else (fragment_at fs k).lo) ≡ (if r then (fragment_at fs k).hi else (fragment_at fs k).lo)) e (finish_at_rest fs line k list.outline rest below),
+      subst (λ (r : Bool). end_at line (if r then (fragment_at fs k).low else (fragment_at fs k).high) (if r then (fragment_at fs k).lo else (fragment_at fs k).hi) ≡ (if r then (fragment_at fs k).lo else (fragment_at fs k).hi)) e (start_at_rest fs line k list.outline rest below),
+    )

@@ -4,7 +4,7 @@ use Rattle.outline_model.specs.declared.fragment.Fragment.{Fragment}
 use Rattle.opc_base.specs.declared.plane.Rect.{Rect}
 use Rattle.outline_model.specs.Outline.{fragment_at, is_vertical}
 
--- the rectangle grown by `reach` on all sides rect_cover the pixel
+-- the rectangle grown by `reach` on all sides covers the pixel
 pub record IsNear (r : Rect) (reach x y : ℤ) : Type 0 where
   pub left : (r.x0 -ℤ reach) ≤ℤ x
   pub right : x <ℤ (r.x1 +ℤ reach)

@@ -1,14 +1,16 @@
 -- The rules of a mask, and where one of them is broken.
-use Rattle.std.specs.Prelude.{◌≡◌, ◌⊎◌, ℕ, ◌<◌, ℤ, pos, neg_ℤ, ◌≤ℤ◌, ◌<ℤ◌, List, length, get_or}
+use Rattle.std.specs.Prelude.{◌≡◌, ◌⊎◌, ℕ, ◌<◌, ℤ, pos, neg_ℤ, ◌≤ℤ◌, ◌<ℤ◌, List, length, get_or, set}
 use Rattle.outline_model.specs.declared.fragment.Fragment.{Fragment}
+use Rattle.opc_base.specs.declared.plane.Pix.{Pix}
 use Rattle.opc_base.specs.declared.rules.MaskRules.{MaskRules}
 use Rattle.opc_base.specs.declared.broken.RuleName.{RuleName}
 use Rattle.opc_base.specs.declared.broken.RuleName.TheVariants.{M0, M1, M2, M3, M4, M5}
 use Rattle.opc_base.specs.declared.broken.Place.{Place}
 use Rattle.opc_base.specs.declared.broken.Place.TheVariants.{Pixel, Fragment as FragmentNumber}
-use Rattle.outline_model.specs.Outline.{Piece, lines, low_end, high_end, vertical_piece, horizontal_piece, count, mask}
+use Rattle.outline_model.specs.Near.{IsNear}
+use Rattle.outline_model.specs.Outline.{Piece, lines, low_end, high_end, next, previous, swept, vertical_piece, horizontal_piece, count, mask}
 use Rattle.opc_base.specs.Runs.{IsTooNarrow, IsCornerTouch}
-use Rattle.opc_base.specs.Plane.{outside}
+use Rattle.opc_base.specs.Plane.{PixelSet, outside}
 
 -- a vertical piece stands on the left side of a pixel, and is walked downward or upward there
 abbrev pub FallsOn : Piece → ℤ → ℤ → Type 0
@@ -50,17 +52,25 @@ CrossesAt fs line x y =
 abbrev pub NoneCrosses : List Fragment → (ℕ → ℤ) → Type 0
 NoneCrosses fs line = (x y : ℤ) → ¬ CrossesAt fs line x y
 
--- M5: the offset is out of range.  M4: the ends are not in order.  M0: the outline crosses or touches itself.
 -- M1: a covered run is too narrow.  M2: an uncovered run between covered pixels is.  M3: two pixels touch at a corner.
+abbrev pub BreaksRuns : MaskRules → PixelSet → RuleName → Pix → Type 0
+BreaksRuns rules pixels M1 p = IsTooNarrow pixels rules.width p.x p.y
+BreaksRuns rules pixels M2 p = IsTooNarrow (outside pixels) rules.space p.x p.y
+BreaksRuns rules pixels M3 p = IsCornerTouch pixels p.x p.y
+BreaksRuns rules pixels M0 p = ⊥
+BreaksRuns rules pixels M4 p = ⊥
+BreaksRuns rules pixels M5 p = ⊥
+
+-- M5: the offset is out of range.  M4: the ends are not in order.  M0: the outline crosses or touches itself.
 abbrev pub Breaks : MaskRules → List Fragment → List ℤ → RuleName → Place → Type 0
 Breaks rules fs offsets M5 (FragmentNumber k) =
     (k < length fs) × ¬ ((neg_ℤ rules.max_in ≤ℤ get_or offsets k (pos 0)) × (get_or offsets k (pos 0) ≤ℤ rules.max_out))
 Breaks rules fs offsets M4 (FragmentNumber k) =
     (k < length fs) × ¬ (low_end fs (lines fs offsets) k <ℤ high_end fs (lines fs offsets) k)
 Breaks rules fs offsets M0 (Pixel p) = CrossesAt fs (lines fs offsets) p.x p.y
-Breaks rules fs offsets M1 (Pixel p) = IsTooNarrow (mask fs (lines fs offsets)) rules.width p.x p.y
-Breaks rules fs offsets M2 (Pixel p) = IsTooNarrow (outside (mask fs (lines fs offsets))) rules.space p.x p.y
-Breaks rules fs offsets M3 (Pixel p) = IsCornerTouch (mask fs (lines fs offsets)) p.x p.y
+Breaks rules fs offsets M1 (Pixel p) = BreaksRuns rules (mask fs (lines fs offsets)) M1 p
+Breaks rules fs offsets M2 (Pixel p) = BreaksRuns rules (mask fs (lines fs offsets)) M2 p
+Breaks rules fs offsets M3 (Pixel p) = BreaksRuns rules (mask fs (lines fs offsets)) M3 p
 Breaks rules fs offsets M5 (Pixel p) = ⊥
 Breaks rules fs offsets M4 (Pixel p) = ⊥
 Breaks rules fs offsets M0 (FragmentNumber k) = ⊥
@@ -102,3 +112,12 @@ reach_of rules M2 = rules.space
 reach_of rules M3 = pos 1
 reach_of rules M4 = pos 0
 reach_of rules M5 = pos 0
+
+-- where the move of fragment i can come to break a rule: near the rectangle that it sweeps, at its own offset, and at the
+-- ends of the fragments before and after it
+abbrev pub IsNearMove : MaskRules → List Fragment → List ℤ → ℕ → ℤ → RuleName → Place → Type 0
+IsNearMove rules fs offsets i to rule (Pixel p) =
+    IsNear (swept fs (lines fs offsets) i (lines fs (set offsets i to) i)) (reach_of rules rule) p.x p.y
+IsNearMove rules fs offsets i to M5 (FragmentNumber k) = k ≡ i
+IsNearMove rules fs offsets i to M4 (FragmentNumber k) = (k ≡ previous fs i) ⊎ (k ≡ next fs i)
+IsNearMove rules fs offsets i to rule (FragmentNumber k) = ⊥

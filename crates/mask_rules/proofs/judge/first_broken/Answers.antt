@@ -4,14 +4,14 @@ use Rattle.std.proofs.lemmas.Int.{ints, clamps, to_z-of_z}
 use Rattle.std.proofs.lemmas.List.{set-get_or}
 use Rattle.outline_model.specs.Rules.{KeepsRules}
 use Rattle.mask_rules.specs.Verdicts.{IsJudged}
-use Rattle.mask_rules.proofs.VerdictLemmas.{judged_if_some, judged_is_none}
-use Rattle.mask_rules.proofs.RuleOffsets.{near_of_rules}
+use Rattle.mask_rules.proofs.VerdictLemmas.{judged_if_some, judged_is_none, judged_near}
+use Rattle.mask_rules.proofs.RuleOffsets.{near_of_rules, offsets_of_rules}
 use Rattle.mask_rules.proofs.judge.first_broken.Goals as goal
 
 pub returns-then-to-from-clause-kept : goal.returns-then-to-from-clause-kept
 returns-then-to-from-clause-kept c =
     let o = c.args.offsets.now in
-    let within = c.requires.offsets.within c.args.i c.requires.fragment in
+    let within = (offsets_of_rules c.args.rules.now c.args.fragments.now c.args.offsets.now c.requires.offsets c.requires.keeps).within c.args.i c.requires.fragment in
     let low = within.0 in let high = within.1 in
     let to_is : c.args.to ≡ get_or o c.args.i (pos 0) = (let is = c.if-to-from.true in omega (arith, ints)) in
     let same : set o c.args.i c.args.to ≡ o = ap (set o c.args.i) to_is ∙ set-get_or o c.args.i (pos 0) in
@@ -20,7 +20,7 @@ returns-then-to-from-clause-kept c =
 pub judge-requires-clause-keeps : goal.judge-requires-clause-keeps
 judge-requires-clause-keeps c =
     let o = c.args.offsets.now in
-    let within = c.requires.offsets.within c.args.i c.requires.fragment in
+    let within = (offsets_of_rules c.args.rules.now c.args.fragments.now c.args.offsets.now c.requires.offsets c.requires.keeps).within c.args.i c.requires.fragment in
     let low = within.0 in let high = within.1 in
     let from = get_or o c.args.i (pos 0) in
     let from_is : to_z w32 (of_z w32 from) ≡ from = omega (arith, ints) in
@@ -30,13 +30,13 @@ judge-requires-clause-keeps c =
 pub returns-clause-broken : goal.returns-clause-broken
 returns-clause-broken c =
     let to_fits : SFits w32 c.args.to = c.ranges.to in
-    let judged : IsJudged c.args.rules.now c.args.fragments.now (set c.args.offsets.now c.args.i c.args.to) c.judge.result = simp to_z-of_z at c.judge.ensures in
+    let judged : IsJudged c.args.rules.now c.args.fragments.now (set c.args.offsets.now c.args.i c.args.to) c.judge.result = simp to_z-of_z at c.judge.ensures.judged in
     judged_if_some c.args.rules.now c.args.fragments.now (set c.args.offsets.now c.args.i c.args.to) c.judge.result judged
 
 pub returns-clause-kept : goal.returns-clause-kept
 returns-clause-kept c =
     let to_fits : SFits w32 c.args.to = c.ranges.to in
-    let judged : IsJudged c.args.rules.now c.args.fragments.now (set c.args.offsets.now c.args.i c.args.to) c.judge.result = simp to_z-of_z at c.judge.ensures in
+    let judged : IsJudged c.args.rules.now c.args.fragments.now (set c.args.offsets.now c.args.i c.args.to) c.judge.result = simp to_z-of_z at c.judge.ensures.judged in
     judged_is_none c.args.rules.now c.args.fragments.now (set c.args.offsets.now c.args.i c.args.to) c.judge.result judged
 
 pub judge-requires-clause-placement : goal.judge-requires-clause-placement
@@ -50,10 +50,10 @@ judge-requires-clause-placement c =
     let near = near_of_rules r c.args.fragments.now c.args.offsets.now c.max.result c.requires.keeps in_below out_below in
     let mine = near c.args.i c.requires.fragment in
     let mine_0 = mine.0 in let mine_1 = mine.1 in
-    let within = c.requires.offsets.within c.args.i c.requires.fragment in
+    let within = (offsets_of_rules c.args.rules.now c.args.fragments.now c.args.offsets.now c.requires.offsets c.requires.keeps).within c.args.i c.requires.fragment in
     let within_0 = within.0 in let within_1 = within.1 in
     record {
-      offsets_within = c.requires.offsets;
+      offsets_within = offsets_of_rules c.args.rules.now c.args.fragments.now c.args.offsets.now c.requires.offsets c.requires.keeps;
       moved_below = c.requires.fragment;
       to_within = (omega (arith, ints), omega (arith, ints));
       reach_least = omega (arith, ints);
@@ -65,3 +65,10 @@ judge-requires-clause-placement c =
           );
       to_near = (omega (arith, ints), omega (arith, ints));
     }
+
+pub returns-clause-near : goal.returns-clause-near
+returns-clause-near c =
+    let to_fits : SFits w32 c.args.to = c.ranges.to in
+    let judged : IsJudged c.args.rules.now c.args.fragments.now (set c.args.offsets.now c.args.i c.args.to) c.judge.result = simp to_z-of_z at c.judge.ensures.judged in
+    judged_near c.args.rules.now c.args.fragments.now c.args.offsets.now c.args.i c.args.to c.judge.result
+    c.judge.ensures.list.outline c.requires.fragment c.requires.keeps judged

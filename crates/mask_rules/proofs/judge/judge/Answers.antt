@@ -10,8 +10,8 @@ use Rattle.mask_rules.specs.Verdicts.{IsJudged, IsOrdered, NoneBreaks}
 use Rattle.mask_rules.proofs.VerdictLemmas.{none_m5, judged_offset, none_m4, judged_ends}
 use Rattle.mask_rules.proofs.judge.judge.Goals as goal
 
-pub returns-then-not-is_in_range : goal.returns-then-not-is_in_range
-returns-then-not-is_in_range c =
+pub returns-then-not-is_in_range-clause-judged : goal.returns-then-not-is_in_range-clause-judged
+returns-then-not-is_in_range-clause-judged c =
     let p = c.args.present.now in
     let r = c.args.rules.now in
     let to_fits : SFits w32 c.args.to = c.ranges.to in
@@ -44,8 +44,8 @@ judge_pixels-requires-clause-ends c =
     rw (to_z-of_z w32 c.args.to to_fits) (none_m4 c.args.rules.now fs p.offsets.now p.moved c.args.to c.get-fragment.ensures.list.outline c.requires.kept
     (subst (IsOrdered fs line) before_is both.0) (subst (IsOrdered fs line) after_is both.1))
 
-pub returns-in-Some : goal.returns-in-Some
-returns-in-Some c =
+pub returns-in-Some-clause-judged : goal.returns-in-Some-clause-judged
+returns-in-Some-clause-judged c =
     let p = c.args.present.now in
     let fs = p.fragments.now in
     let r = c.args.rules.now in

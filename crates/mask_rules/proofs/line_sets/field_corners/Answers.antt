@@ -1,4 +1,4 @@
-use Rattle.std.proofs.Common.{◌≡◌, ◌∙◌, pos, ◌+ℤ◌, int_le, ◌&&◌, if◌then◌else◌, arith}
+use Rattle.std.proofs.Common.{◌∙◌, pos, int_le, ◌&&◌, if◌then◌else◌, arith}
 use Rattle.std.proofs.lemmas.Int.{ints}
 use Rattle.opc_base.specs.declared.plane.Corner.{Corner}
 use Rattle.rect_union.proofs.SumLaws.{sum_each-nil}

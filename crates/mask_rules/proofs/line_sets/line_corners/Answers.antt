@@ -1,4 +1,4 @@
-use Rattle.std.proofs.Common.{◌≡◌, inl, inr, SFits, w8, to_z-of_z, ◌∙◌, ◌<◌, ◌≤◌, ℤ, pos, ◌+ℤ◌, length, get_or, arith}
+use Rattle.std.proofs.Common.{inl, inr, SFits, w8, to_z-of_z, ◌<◌, ◌≤◌, pos, length, get_or, arith}
 use Rattle.std.proofs.Math.Facts.{sfits_lit}
 use Rattle.std.proofs.lemmas.Int.{ints}
 use Rattle.opc_base.specs.declared.plane.Rect.{Rect}

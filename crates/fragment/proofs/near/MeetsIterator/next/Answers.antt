@@ -1,5 +1,5 @@
 -- The first fragment that is met is taken from those that are left.
-use Rattle.std.proofs.Common.{◌≡◌, ◌+◌, ◌∷◌, refl, rules}
+use Rattle.std.proofs.Common.{◌≡◌, ◌+◌, ◌∷◌, rules}
 use Rattle.fragment.specs.Index.{met_from}
 use Rattle.fragment.proofs.MetLaws.{steps_none, steps_some}
 use Rattle.fragment.proofs.near.MeetsIterator.next.Goals as goal

@@ -1,7 +1,6 @@
 -- The smaller rectangle meets what is within reach.
-use Rattle.std.proofs.Common.{◌≡◌, ◌+ℤ◌, ◌-ℤ◌, pos, w32, to_z, of_z, SFits, subst, arith, rules}
+use Rattle.std.proofs.Common.{arith}
 use Rattle.std.proofs.lemmas.Int.{ints}
-use Rattle.fragment.specs.Index.{IsShrunk}
 use Rattle.fragment.proofs.AreaLaws.{is_met_within}
 use Rattle.fragment.proofs.MetLaws.{met-ascending, met-below, met-complete}
 use Rattle.fragment.proofs.near.Near.meets_within.Goals as goal

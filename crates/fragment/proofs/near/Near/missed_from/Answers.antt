@@ -1,7 +1,6 @@
 -- What an area misses, the fragments inside it miss.
 use Rattle.std.proofs.Common.{◌≡◌, ◌%◌, false, sym, arith}
-use Rattle.fragment.specs.Index.{is_met}
-use Rattle.fragment.proofs.AreaLaws.{block_missed_at, block_within, group_missed_at, met_at, one_missed, placed_value}
+use Rattle.fragment.proofs.AreaLaws.{block_missed_at, group_missed_at, met_at, one_missed, placed_value}
 use Rattle.fragment.proofs.near.Near.missed_from.Goals as goal
 
 pub area_of-requires : goal.area_of-requires
