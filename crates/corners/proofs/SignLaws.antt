@@ -7,10 +7,11 @@ use Rattle.opc_base.specs.Plane.{PixelSet, indicator, rect_cover}
 use Rattle.opc_base.specs.Sums.{sum_each}
 use Rattle.opc_base.specs.declared.plane.Corner.{Corner}
 use Rattle.opc_base.specs.declared.plane.Rect.{Rect}
-use Rattle.corners.specs.Points.{IsAscending, IsSigned, Precedes, SignsWithin, corner_from, quadrants}
+use Rattle.corners.specs.Points.{corner_from, quadrants}
+use Rattle.signed_points.specs.Points.{IsAscending, IsSigned, Precedes, SignsWithin}
 use Rattle.corners.specs.Windows.{AreInRows, IsCornerIn, Shows, in_window}
 use Rattle.opc_base.specs.Lanes.{AddUpNear}
-use Rattle.corners.specs.declared.points.Point.{Point}
+use Rattle.signed_points.specs.declared.points.Point.{Point}
 use Rattle.corners.proofs.MergeLaws.{quadrants-cons, quadrants-nil}
 
 -- ---- points as corners
@@ -21,7 +22,7 @@ pub quadrant_sum-points : (ps : List Point) (x y : ℤ) → quadrant_sum (map co
 unfolding sum_each
 quadrant_sum-points [] x y = sym (quadrants-nil y x)
 quadrant_sum-points (p ∷ ps) x y =
-    let first = swapped (int_le p.x x) (int_le p.y y) p.sign in
+    let first = swapped (int_le p.place x) (int_le p.line y) p.sign in
     let rest = quadrant_sum-points ps x y in
     let all = quadrants-cons p ps y x in
     omega (arith, ints)
@@ -73,25 +74,25 @@ elsewhere_before qx qy px py e (inr left) = let apart = left.1 in grind (arith, 
 here : (x y e : ℤ) → (if int_eq x x && int_eq y y then e else pos 0) ≡ e
 here x y e = grind (arith, ints)
 
-others_add_nothing : (p : Point) (ps : List Point) → All (Precedes p) ps → point_sum (map corner_from ps) p.x p.y ≡ pos 0
+others_add_nothing : (p : Point) (ps : List Point) → All (Precedes p) ps → point_sum (map corner_from ps) p.place p.line ≡ pos 0
 unfolding sum_each
 others_add_nothing p [] after = refl
 others_add_nothing p (q ∷ ps) after =
-    let first = elsewhere q.x q.y p.x p.y q.sign (after 0 q (omega arith)) in
+    let first = elsewhere q.place q.line p.place p.line q.sign (after 0 q (omega arith)) in
     let rest = others_add_nothing p ps (λ k d below. after (suc k) d (omega arith)) in
     omega (arith, ints)
 
 own_sign : (ps : List Point) (k : ℕ) (d : Point) → IsAscending ps → k < length ps →
-    point_sum (map corner_from ps) (get_or ps k d).x (get_or ps k d).y ≡ (get_or ps k d).sign
+    point_sum (map corner_from ps) (get_or ps k d).place (get_or ps k d).line ≡ (get_or ps k d).sign
 unfolding sum_each
 own_sign [] k d ascending below = absurd (omega arith)
 own_sign (p ∷ ps) zero d ascending below =
-    let first = here p.x p.y p.sign in
+    let first = here p.place p.line p.sign in
     let rest = others_add_nothing p ps (λ k e within. ascending 0 (suc k) e (omega arith) (omega arith)) in
     omega (arith, ints)
 own_sign (p ∷ ps) (suc k) d ascending below =
     let q : Point = get_or ps k d in
-    let first = elsewhere_before p.x p.y q.x q.y p.sign (ascending 0 (suc k) d (omega arith) below) in
+    let first = elsewhere_before p.place p.line q.place q.line p.sign (ascending 0 (suc k) d (omega arith) below) in
     let rest = own_sign ps k d (λ i j e before within. ascending (suc i) (suc j) e (omega arith) (omega arith)) (omega arith) in
     omega (arith, ints)
 
@@ -187,17 +188,17 @@ module _ (window : Rect) (pixels : PixelSet) (ps : List Point) (ascending : IsAs
   pub signs_are : (x y : ℤ) → point_sum (map corner_from ps) x y ≡ sign_at (in_window window pixels) x y
   signs_are x y = point_sum-sign_at (in_window window pixels) (map corner_from ps) x y quadrants_are
 
-  sign_is : (k : ℕ) (d : Point) → k < length ps → (get_or ps k d).sign ≡ sign_at (in_window window pixels) (get_or ps k d).x (get_or ps k d).y
-  sign_is k d below = sym (own_sign ps k d ascending below) ∙ signs_are (get_or ps k d).x (get_or ps k d).y
+  sign_is : (k : ℕ) (d : Point) → k < length ps → (get_or ps k d).sign ≡ sign_at (in_window window pixels) (get_or ps k d).place (get_or ps k d).line
+  sign_is k d below = sym (own_sign ps k d ascending below) ∙ signs_are (get_or ps k d).place (get_or ps k d).line
 
   point_in : (k : ℕ) (d : Point) → k < length ps → IsCornerIn window (corner_from (get_or ps k d))
   point_in k d below = record {
     signed = some;
-    small = rw is (sign_small (in_window window pixels) p.x p.y);
-    left = by_lt_z p.x window.x0 (λ out. absurd (some (is ∙ sign_outside window pixels p.x p.y (inl (inl out))))) (λ within. within);
-    right = by_lt_z window.x1 p.x (λ out. absurd (some (is ∙ sign_outside window pixels p.x p.y (inl (inr out))))) (λ within. within);
-    bottom = by_lt_z p.y window.y0 (λ out. absurd (some (is ∙ sign_outside window pixels p.x p.y (inr (inl out))))) (λ within. within);
-    top = by_lt_z window.y1 p.y (λ out. absurd (some (is ∙ sign_outside window pixels p.x p.y (inr (inr out))))) (λ within. within);
+    small = rw is (sign_small (in_window window pixels) p.place p.line);
+    left = by_lt_z p.place window.x0 (λ out. absurd (some (is ∙ sign_outside window pixels p.place p.line (inl (inl out))))) (λ within. within);
+    right = by_lt_z window.x1 p.place (λ out. absurd (some (is ∙ sign_outside window pixels p.place p.line (inl (inr out))))) (λ within. within);
+    bottom = by_lt_z p.line window.y0 (λ out. absurd (some (is ∙ sign_outside window pixels p.place p.line (inr (inl out))))) (λ within. within);
+    top = by_lt_z window.y1 p.line (λ out. absurd (some (is ∙ sign_outside window pixels p.place p.line (inr (inr out))))) (λ within. within);
   }
     where
       p : Point
@@ -206,11 +207,11 @@ module _ (window : Rect) (pixels : PixelSet) (ps : List Point) (ascending : IsAs
       some : (get_or ps k d).sign ≢ pos 0
       some = signed k d below
 
-      is : (get_or ps k d).sign ≡ sign_at (in_window window pixels) (get_or ps k d).x (get_or ps k d).y
+      is : (get_or ps k d).sign ≡ sign_at (in_window window pixels) (get_or ps k d).place (get_or ps k d).line
       is = sign_is k d below
 
   nothing_at : Point
-  nothing_at = record { y = pos 0; x = pos 0; sign = pos 0 }
+  nothing_at = record { line = pos 0; place = pos 0; sign = pos 0 }
 
   read : (k : ℕ) (d : Corner) → k < length ps → get_or (map corner_from ps) k d ≡ corner_from (get_or ps k nothing_at)
   read k d below = get_or-map corner_from ps k nothing_at d below

@@ -6,10 +6,12 @@ use Rattle.opc_base.specs.Plane.{AreDisjoint, HaveNoOverlap, PixelSet, cover, in
 use Rattle.opc_base.specs.Sums.{sum_each}
 use Rattle.opc_base.specs.declared.plane.Rect.{Rect}
 use Rattle.opc_base.specs.declared.plane.Corner.{Corner}
-use Rattle.corners.specs.Points.{HasArea, SameSums, SignsWithin, corner_from, quadrants, share}
+use Rattle.corners.specs.Points.{HasArea, corner_from, quadrants, share}
+use Rattle.signed_points.specs.Points.{SameSums, SignsWithin}
 use Rattle.corners.specs.Windows.{clip, in_window}
-use Rattle.corners.specs.declared.points.Point.{Point}
-use Rattle.corners.proofs.MergeLaws.{All-push, quadrants-permutation, quadrants-push}
+use Rattle.signed_points.specs.declared.points.Point.{Point}
+use Rattle.corners.proofs.MergeLaws.{quadrants-merged, quadrants-permutation, quadrants-push}
+use Rattle.std.proofs.lemmas.List.Elements.{All-push}
 use Rattle.std.proofs.lemmas.List.{map-append, take_more}
 
 -- ---- a rectangle in the window
@@ -101,7 +103,7 @@ four_shares : (a b c d : Bool) → (b ≡ true → a ≡ true) → (d ≡ true �
 four_shares a b c d f g = grind (arith, ints)
 
 abbrev pub point : ℤ → ℤ → ℤ → Point
-point y x sign = record { y = y; x = x; sign = sign }
+point y x sign = record { line = y; place = x; sign = sign }
 
 four_points : (r : Rect) (y x : ℤ) → HasArea r →
     share (point r.y0 r.x0 (pos 1)) y x +ℤ share (point r.y0 r.x1 (negsuc 0)) y x +ℤ share (point r.y1 r.x0 (negsuc 0)) y x +ℤ share (point r.y1 r.x1 (pos 1)) y x
@@ -190,7 +192,7 @@ pub merged_sums : (window : Rect) (rects taken : List Rect) (points sorted read 
     IsPermutation points sorted → read ≡ sorted → SameSums merged read →
     (y x : ℤ) → quadrants merged y x ≡ indicator (in_window window (cover rects)) x y
 merged_sums window rects taken points sorted read merged apart whole sums moved is same y x =
-    same y x ∙ ap (λ ps. quadrants ps y x) is ∙ quadrants-permutation points sorted y x moved ∙ sums y x
+    quadrants-merged merged read y x same ∙ ap (λ ps. quadrants ps y x) is ∙ quadrants-permutation points sorted y x moved ∙ sums y x
     ∙ ap (sum_each (λ (r : Rect). indicator (rect_cover (clip window r)) x y)) whole
     ∙ sym (cover_in_window window rects x y apart)
 

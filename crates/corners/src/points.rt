@@ -1,19 +1,12 @@
-//! Signed points, sorted and merged.
+//! The signed points of a rectangle.
 
-ghost use Rattle.std.specs.Prelude.{◌≡◌, ◌+◌, ◌^◌, ◌≤◌, ℕ, ℤ, pos, neg_ℤ, ◌+ℤ◌, ◌≤ℤ◌, IfOk, OnOk, length};
+ghost use Rattle.std.specs.Prelude.{◌≡◌, ◌+◌, ℤ, ◌+ℤ◌, OnOk, length};
 ghost use Rattle.opc_base.specs.Plane.{IsRectWithin, indicator, rect_cover};
-ghost use Rattle.corners.specs.Points.{AddsPoint, AreMergedUpTo, HasArea, IsAscending, IsInOrder, IsSigned, IsTakenAt, SameSums, SignsWithin, quadrants};
+ghost use Rattle.corners.specs.Points.{HasArea, quadrants};
+ghost use Rattle.signed_points.specs.Points.{SignsWithin};
 
 use opc_base::{NoMemory, Rect};
-use std::alloc::Global;
-
-/// A lattice point with a sign, or the sum of the signs at it.
-#[derive(Clone, Copy, PartialEq, Eq, PartialOrd, Ord, Debug)]
-pub struct Point {
-    pub y: i32,
-    pub x: i32,
-    pub sign: i64,
-}
+use signed_points::Point;
 
 /// Adds the four signed points of a rectangle.
 pub fn push_points(points: &mut Vec<Point>, rect: Rect) -> Result<(), NoMemory>
@@ -25,74 +18,24 @@ pub fn push_points(points: &mut Vec<Point>, rect: Rect) -> Result<(), NoMemory>
     ensures four { OnOk result (length points.new.items ≡ length points.old.items + 4) }
 {
     points.push(Point {
-        y: rect.y0,
-        x: rect.x0,
+        line: rect.y0,
+        place: rect.x0,
         sign: 1,
     })?;
     points.push(Point {
-        y: rect.y0,
-        x: rect.x1,
+        line: rect.y0,
+        place: rect.x1,
         sign: -1,
     })?;
     points.push(Point {
-        y: rect.y1,
-        x: rect.x0,
+        line: rect.y1,
+        place: rect.x0,
         sign: -1,
     })?;
     points.push(Point {
-        y: rect.y1,
-        x: rect.x1,
+        line: rect.y1,
+        place: rect.x1,
         sign: 1,
     })?;
     Ok(())
-}
-
-/// The points with those at one place made one, whose sign is their sum, and without those whose sign is then 0.
-pub fn merge_points(alloc: Global, points: &[Point]) -> Result<Vec<Point>, NoMemory>
-    requires order { IsInOrder points.now }
-    requires signs { SignsWithin 1 points.now }
-    ensures ascending { IfOk result (λ ps. IsAscending ps.items) }
-    ensures signed { IfOk result (λ ps. IsSigned ps.items) }
-    ensures sums { IfOk result (λ ps. SameSums ps.items points.now) }
-    ensures few { IfOk result (λ ps. length ps.items ≤ length points.now) }
-{
-    let mut merged = Vec::new(alloc);
-    for point in points {
-        add_point(&mut merged, *point)?;
-    }
-    Ok(merged)
-}
-
-/// Adds the point's sign to the last point, if that is at the same place, or else the point.
-fn add_point(merged: &mut Vec<Point>, point: Point) -> Result<(), NoMemory>
-    requires merged { AreMergedUpTo point merged.old.items }
-    requires signs { SignsWithin (2 ^ 61) merged.old.items }
-    requires sign { (neg_ℤ (pos 1) ≤ℤ point.sign) × (point.sign ≤ℤ pos 1) }
-    ensures adds { OnOk result (AddsPoint point merged.old.items merged.new.items) }
-    ensures few { OnOk result (length merged.new.items ≤ length merged.old.items + 1) }
-{
-    let sign = take_sign(merged, &point) + point.sign;
-    if sign != 0 {
-        merged.push(Point {
-            y: point.y,
-            x: point.x,
-            sign,
-        })?;
-    }
-    Ok(())
-}
-
-/// Takes the last point away if it is at this place. The answer is its sign, or 0.
-fn take_sign(merged: &mut Vec<Point>, point: &Point) -> i64
-    ensures taken { IsTakenAt point.now merged.old.items merged.new.items result }
-    ensures few { length merged.new.items ≤ length merged.old.items }
-{
-    let Some(&last) = merged.last() else {
-        return 0;
-    };
-    if last.y != point.y || last.x != point.x {
-        return 0;
-    }
-    merged.pop();
-    last.sign
 }

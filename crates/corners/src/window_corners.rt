@@ -4,11 +4,13 @@ ghost use Rattle.std.specs.Prelude.{◌≡◌, ℕ, ◌+◌, ◌*◌, ◌≤◌,
 ghost use Rattle.opc_base.specs.Lanes.{AddUpNear};
 ghost use Rattle.opc_base.specs.Corners.{point_sum, quadrant_sum, sign_at};
 ghost use Rattle.opc_base.specs.Plane.{HaveNoOverlap, IsRectWithin, cover, indicator, rect_cover};
-ghost use Rattle.corners.specs.Points.{AreCornersFrom, IsAscending, IsSigned, SignsWithin, quadrants};
+ghost use Rattle.corners.specs.Points.{AreCornersFrom, quadrants};
+ghost use Rattle.signed_points.specs.Points.{IsAscending, IsSigned, SignsWithin};
 ghost use Rattle.corners.specs.Windows.{AreInRows, IsCornerIn, Shows, clip, in_window};
 
-use crate::points::{Point, merge_points, push_points};
+use crate::points::push_points;
 use opc_base::{Corner, NoMemory, Rect};
+use signed_points::{Point, merge_points};
 use std::alloc::Global;
 
 /// The corners of the pixels that the rectangles cover in the window: by rows from the lowest, each from the left, each
@@ -88,8 +90,8 @@ fn corners_from(alloc: Global, points: &[Point]) -> Result<Vec<Corner>, NoMemory
     let mut corners = Vec::new(alloc);
     for point in points {
         corners.push(Corner {
-            x: point.x,
-            y: point.y,
+            x: point.place,
+            y: point.line,
             sign: point.sign as i8,
         })?;
     }

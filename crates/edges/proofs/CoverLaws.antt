@@ -7,13 +7,15 @@ use Rattle.std.specs.declared.alloc.AllocError.{AllocError}
 use Rattle.std.proofs.lemmas.List.{take_all}
 use Rattle.opc_base.specs.declared.plane.Rect.{Rect}
 use Rattle.outline_model.proofs.Pixels.{rect_cover-pairs}
-use Rattle.edges.specs.declared.corner.Corner.{Corner}
+use Rattle.signed_points.specs.declared.points.Point.{Point}
 use Rattle.opc_base.specs.Plane.{rect_cover, cover}
 use Rattle.outline_model.specs.Edges.{seen}
 use Rattle.outline_model.specs.Ranges.{IsPlaced}
 use Rattle.edges.specs.Disjoint.{IsSolid, AreApart, AreSolidAndApart}
-use Rattle.edges.specs.Corners.{level, bit, rect_change, rect_changes, sign_reached, SignsWithin, SameLevels, IsAscending, IsSigned, AreCorners}
-use Rattle.edges.proofs.MergeLaws.{level-push, level-permutation, All-push}
+use Rattle.edges.specs.Corners.{level, bit, rect_change, rect_changes, sign_reached, AreCorners}
+use Rattle.signed_points.specs.Points.{SameSums, SignsWithin, IsAscending, IsSigned}
+use Rattle.edges.proofs.MergeLaws.{level-merged, level-push, level-permutation}
+use Rattle.std.proofs.lemmas.List.Elements.{All-push}
 
 int_eq_absurd : (a b : ℤ) → int_eq a b ≡ true → a ≡ b
 int_eq_absurd a b e = (Decides-int_eq a b).0 e
@@ -76,7 +78,7 @@ across first last line q some =
     by true false true false false true g h i j k l = absurd (let at = int_eq_absurd last line l in omega (arith, ints))
     by true false true false false false g h i j k l = refl
 
-abbrev point : ℤ → ℤ → ℤ → Corner
+abbrev point : ℤ → ℤ → ℤ → Point
 point line place sign = record { line = line; place = place; sign = sign }
 
 four : (first last low high line place : ℤ) → first <ℤ last → low <ℤ high
@@ -219,7 +221,7 @@ rect_changes-cover false rs line place disjoint =
 abbrev pub stored : ℤ → ℤ
 stored z = to_z w32 (of_z w32 z)
 
-abbrev pub stored_point : ℤ → ℤ → ℤ → Corner
+abbrev pub stored_point : ℤ → ℤ → ℤ → Point
 stored_point line place sign = record { line = stored line; place = stored place; sign = sign }
 
 stored_is : (z : ℤ) → IsPlaced z → stored z ≡ z
@@ -231,7 +233,7 @@ AreEnds upright r ends =
     ((upright ≡ true) × (ends ≡ (to_z w32 (of_z w32 r.x0), to_z w32 (of_z w32 r.x1), to_z w32 (of_z w32 r.y0), to_z w32 (of_z w32 r.y1))))
     ⊎ ((upright ≡ false) × (ends ≡ (to_z w32 (of_z w32 r.y0), to_z w32 (of_z w32 r.y1), to_z w32 (of_z w32 r.x0), to_z w32 (of_z w32 r.x1))))
 
-pub points_signs : (ends : ℤ × ℤ × ℤ × ℤ) (v0 v1 v2 v3 v4 : List Corner) → SignsWithin 1 v0
+pub points_signs : (ends : ℤ × ℤ × ℤ × ℤ) (v0 v1 v2 v3 v4 : List Point) → SignsWithin 1 v0
     → v1 ≡ v0 ++ stored_point ends.0 ends.2 (pos 1) ∷ [] → v2 ≡ v1 ++ stored_point ends.0 ends.3 (negsuc 0) ∷ []
     → v3 ≡ v2 ++ stored_point ends.1 ends.2 (negsuc 0) ∷ [] → v4 ≡ v3 ++ stored_point ends.1 ends.3 (pos 1) ∷ [] → SignsWithin 1 v4
 points_signs ends v0 v1 v2 v3 v4 within e f g h =
@@ -240,17 +242,17 @@ points_signs ends v0 v1 v2 v3 v4 within e f g h =
     let three = pushed v2 v3 (stored_point ends.1 ends.2 (negsuc 0)) two g (omega (arith, ints), omega (arith, ints)) in
     pushed v3 v4 (stored_point ends.1 ends.3 (pos 1)) three h (omega (arith, ints), omega (arith, ints))
   where
-    pushed : (v w : List Corner) (c : Corner) → SignsWithin 1 v → w ≡ v ++ c ∷ [] → (neg_ℤ (pos 1) ≤ℤ c.sign) × (c.sign ≤ℤ pos 1) → SignsWithin 1 w
+    pushed : (v w : List Point) (c : Point) → SignsWithin 1 v → w ≡ v ++ c ∷ [] → (neg_ℤ (pos 1) ≤ℤ c.sign) × (c.sign ≤ℤ pos 1) → SignsWithin 1 w
     pushed v w c all is unit =
         subst (SignsWithin 1) (sym is) (All-push (λ d. (neg_ℤ (pos 1) ≤ℤ d.sign) × (d.sign ≤ℤ pos 1)) v c all unit)
 
-pub points_levels : (upright : Bool) (r : Rect) (ends : ℤ × ℤ × ℤ × ℤ) (v0 v1 v2 v3 v4 : List Corner) (line place : ℤ) → IsSolid r → AreEnds upright r ends
+pub points_levels : (upright : Bool) (r : Rect) (ends : ℤ × ℤ × ℤ × ℤ) (v0 v1 v2 v3 v4 : List Point) (line place : ℤ) → IsSolid r → AreEnds upright r ends
     → v1 ≡ v0 ++ stored_point ends.0 ends.2 (pos 1) ∷ [] → v2 ≡ v1 ++ stored_point ends.0 ends.3 (negsuc 0) ∷ []
     → v3 ≡ v2 ++ stored_point ends.1 ends.2 (negsuc 0) ∷ [] → v4 ≡ v3 ++ stored_point ends.1 ends.3 (pos 1) ∷ []
     → level v4 line place ≡ level v0 line place +ℤ rect_change upright r line place
 points_levels upright r ends v0 v1 v2 v3 v4 line place solid are e f g h = by are
   where
-    pushed : (v w : List Corner) (c d : Corner) → w ≡ v ++ c ∷ [] → c ≡ d → level w line place ≡ level v line place +ℤ sign_reached d line place
+    pushed : (v w : List Point) (c d : Point) → w ≡ v ++ c ∷ [] → c ≡ d → level w line place ≡ level v line place +ℤ sign_reached d line place
     pushed v w c d is same = ap (λ t. level t line place) (is ∙ ap (λ t. v ++ t ∷ []) same) ∙ level-push v d line place
 
     summed : (a b c d : ℤ) → stored ends.0 ≡ a → stored ends.1 ≡ b → stored ends.2 ≡ c → stored ends.3 ≡ d
@@ -281,16 +283,16 @@ points_levels upright r ends v0 v1 v2 v3 v4 line place solid are e f g h = by ar
 
 -- ---- the merged corners
 
-pub corners_of_merged : (upright : Bool) (rects : List Rect) (i : ℕ) (points sorted read : List Corner) (result : Result (Vec Corner Global) AllocError)
+pub corners_of_merged : (upright : Bool) (rects : List Rect) (i : ℕ) (points sorted read : List Point) (result : Result (Vec Point Global) AllocError)
     → AreSolidAndApart rects → length rects ≤ i
     → ((line place : ℤ) → level points line place ≡ rect_changes upright (take i rects) line place) → IsPermutation points sorted → read ≡ sorted
-    → IfOk result (λ cs. IsAscending cs.items) → IfOk result (λ cs. IsSigned cs.items) → IfOk result (λ cs. SameLevels cs.items read)
+    → IfOk result (λ cs. IsAscending cs.items) → IfOk result (λ cs. IsSigned cs.items) → IfOk result (λ cs. SameSums cs.items read)
     → IfOk result (λ cs. AreCorners (seen upright (cover rects)) cs.items)
 corners_of_merged upright rects i points sorted read (Ok cs) disjoint all levels moved same ascending signed merged = record {
   ascending = ascending;
   signed = signed;
   change = λ line place.
-      merged line place ∙ ap (λ t. level t line place) same ∙ level-permutation points sorted line place moved
+      level-merged cs.items read line place merged ∙ ap (λ t. level t line place) same ∙ level-permutation points sorted line place moved
       ∙ levels line place ∙ rect_changes-all upright rects i line place all ∙ rect_changes-cover upright rects line place disjoint;
 }
 corners_of_merged upright rects i points sorted read (Err e) disjoint all levels moved same ascending signed merged = tt

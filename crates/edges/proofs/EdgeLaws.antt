@@ -4,13 +4,14 @@ use Rattle.std.proofs.lemmas.Int.{ints}
 use Rattle.std.proofs.lemmas.Bool.Decides.{Decides-eqb, Decides-ltb, not_from_Decides}
 use Rattle.outline_model.specs.Outline.{is_vertical}
 use Rattle.outline_model.specs.Target.{opens}
-use Rattle.edges.specs.declared.corner.Corner.{Corner}
+use Rattle.signed_points.specs.declared.points.Point.{Point}
 use Rattle.outline_model.specs.declared.edge.Edge.{Edge}
 use Rattle.opc_base.specs.declared.plane.Rect.{Rect}
 use Rattle.opc_base.specs.Plane.{PixelSet, rect_cover, cover}
 use Rattle.outline_model.specs.Edges.{seen, is_convex}
 use Rattle.edges.specs.Disjoint.{IsSolid}
-use Rattle.edges.specs.Corners.{corner_at, Precedes, level, bit, AreCorners}
+use Rattle.edges.specs.Corners.{level, bit, AreCorners}
+use Rattle.signed_points.specs.Points.{point_at, Precedes}
 use Rattle.outline_model.specs.Edges.{edge_at, IsEdge, EdgePrecedes, HasEdges}
 use Rattle.edges.specs.Pairs.{IsAt, HasPoint, side_at, IsBetween, ArePaired}
 use Rattle.edges.proofs.PairLaws.{IsReached, signs, signs-suc, signs-even, signs-odd, sign_is_unit, ReachesFirst, reaches_first, reaches_between, level-first, level_at, level_below, next_on_line, NoTouch, EndsBelow, IsUnit}
@@ -68,26 +69,26 @@ is_vertical-side_at false false = refl
 abbrev pub AreAcross : PixelSet → PixelSet → Type 0
 AreAcross inside across = (line place : ℤ) → across place line ≡ inside line place
 
-signs_differ : (inside : PixelSet) (cs : List Corner) (k : ℕ) → AreCorners inside cs → k < length cs
-    → (bit (inside (corner_at cs k).line (corner_at cs k).place) -ℤ bit (inside ((corner_at cs k).line -ℤ pos 1) (corner_at cs k).place))
-    ≢ (bit (inside (corner_at cs k).line ((corner_at cs k).place -ℤ pos 1)) -ℤ bit (inside ((corner_at cs k).line -ℤ pos 1) ((corner_at cs k).place -ℤ pos 1)))
+signs_differ : (inside : PixelSet) (cs : List Point) (k : ℕ) → AreCorners inside cs → k < length cs
+    → (bit (inside (point_at cs k).line (point_at cs k).place) -ℤ bit (inside ((point_at cs k).line -ℤ pos 1) (point_at cs k).place))
+    ≢ (bit (inside (point_at cs k).line ((point_at cs k).place -ℤ pos 1)) -ℤ bit (inside ((point_at cs k).line -ℤ pos 1) ((point_at cs k).place -ℤ pos 1)))
 signs_differ inside cs k corners below same =
     let a = level_at inside cs k corners below in
     let b = level_below inside cs k corners below in
     let c = signs-suc cs k in
-    let none : (corner_at cs k).sign ≡ pos 0 = omega (arith, ints) in
+    let none : (point_at cs k).sign ≡ pos 0 = omega (arith, ints) in
     corners.signed k _ below none
 
-found_across : (across : PixelSet) (cs : List Corner) (line place : ℤ) → AreCorners across cs
+found_across : (across : PixelSet) (cs : List Point) (line place : ℤ) → AreCorners across cs
     → level cs line place ≢ level cs line (place -ℤ pos 1) → HasPoint cs line place
 found_across across cs line place corners differ =
     by (reaches_first cs line place corners.ascending) (reaches_first cs line (place -ℤ pos 1) corners.ascending)
   where
-    further : (c : Corner) → IsReached c line (place -ℤ pos 1) → IsReached c line place
+    further : (c : Point) → IsReached c line (place -ℤ pos 1) → IsReached c line place
     further c (inl p) = inl p
     further c (inr p) = inr (p.0, (let a = p.1 in omega (arith, ints)))
 
-    at : (c : Corner) → IsReached c line place → ¬ IsReached c line (place -ℤ pos 1) → (c.line ≡ line) × (c.place ≡ place)
+    at : (c : Point) → IsReached c line place → ¬ IsReached c line (place -ℤ pos 1) → (c.line ≡ line) × (c.place ≡ place)
     at c (inl p) none = absurd (none (inl p))
     at c (inr p) none = (p.0, exactly (int_le c.place (place -ℤ pos 1)) refl)
       where
@@ -103,28 +104,28 @@ found_across across cs line place corners differ =
             let less = (Decides-ltb two.0 one.0).0 e in
             let w = one.1.within in
             let inside_list : two.0 < length cs = omega arith in
-            let point = at (corner_at cs two.0) (one.1.reached two.0 less) (two.1.beyond two.0 (omega arith) inside_list) in
+            let point = at (point_at cs two.0) (one.1.reached two.0 less) (two.1.beyond two.0 (omega arith) inside_list) in
             (two.0, (inside_list, point.0, point.1))
         cases false true e f =
             let less = (Decides-ltb one.0 two.0).0 f in
             let w = two.1.within in
-            absurd (one.1.beyond one.0 (omega arith) (omega arith) (further (corner_at cs one.0) (two.1.reached one.0 less)))
+            absurd (one.1.beyond one.0 (omega arith) (omega arith) (further (point_at cs one.0) (two.1.reached one.0 less)))
         cases false false e f =
             let a = not_from_Decides _ (Decides-ltb two.0 one.0) e in
             let b = not_from_Decides _ (Decides-ltb one.0 two.0) f in
             let same : one.0 ≡ two.0 = omega arith in
             absurd (differ (level-first cs line place one.0 one.1 ∙ ap (signs cs) same ∙ sym (level-first cs line (place -ℤ pos 1) two.0 two.1)))
 
-pub met_across : (inside across : PixelSet) (cs others : List Corner) (k : ℕ) → AreCorners inside cs → AreCorners across others → AreAcross inside across
-    → k < length cs → HasPoint others (corner_at cs k).place (corner_at cs k).line
+pub met_across : (inside across : PixelSet) (cs others : List Point) (k : ℕ) → AreCorners inside cs → AreCorners across others → AreAcross inside across
+    → k < length cs → HasPoint others (point_at cs k).place (point_at cs k).line
 met_across inside across cs others k corners acrosses same below =
     found_across across others place line acrosses (λ e. signs_differ inside cs k corners below (swapped e))
   where
     line : ℤ
-    line = (corner_at cs k).line
+    line = (point_at cs k).line
 
     place : ℤ
-    place = (corner_at cs k).place
+    place = (point_at cs k).place
 
     swapped : level others place line ≡ level others place (line -ℤ pos 1)
         → bit (inside line place) -ℤ bit (inside (line -ℤ pos 1) place)
@@ -148,14 +149,14 @@ parity k = by (k % 2 == 0) refl
     by false e = let apart : k % 2 ≢ 0 = not_from_Decides _ (Decides-eqb (k % 2) 0) e in inr (e, omega arith)
 
 -- what an even or an odd number says of the set on both sides of a line across
-across_change : (across : PixelSet) (others : List Corner) (k : ℕ) (line place : ℤ) → AreCorners across others → NoTouch across → IsAt others line place k
+across_change : (across : PixelSet) (others : List Point) (k : ℕ) (line place : ℤ) → AreCorners across others → NoTouch across → IsAt others line place k
     → ((k % 2 == 0) ≡ true → across line place ≢ across (line -ℤ pos 1) place)
     × ((k % 2 == 0) ≡ false → across line place ≡ across (line -ℤ pos 1) place)
 across_change across others k line place corners none at = (even (parity k), odd (parity k))
   where
     here : signs others (suc k) ≡ bit (across line place) -ℤ bit (across (line -ℤ pos 1) place)
     here = level_at across others k corners at.0
-        ∙ ap (λ l. bit (across l (corner_at others k).place) -ℤ bit (across (l -ℤ pos 1) (corner_at others k).place)) at.1
+        ∙ ap (λ l. bit (across l (point_at others k).place) -ℤ bit (across (l -ℤ pos 1) (point_at others k).place)) at.1
         ∙ ap (λ p. bit (across line p) -ℤ bit (across (line -ℤ pos 1) p)) at.2
 
     even : ((k % 2 == 0) ≡ true) × (k ≡ k / 2 + k / 2) ⊎ (((k % 2 == 0) ≡ false) × (k ≡ suc (k / 2 + k / 2)))
@@ -188,22 +189,22 @@ convex_high a b c d false false e f g h = rw (e, f, ← g, h) refl
 -- ---- one edge
 
 -- the corners m and m + 1 are on one line, and the set is on one side of it between them
-record IsStretch (inside : PixelSet) (cs : List Corner) (m : ℕ) : Type 0 where
+record IsStretch (inside : PixelSet) (cs : List Point) (m : ℕ) : Type 0 where
   next : suc m < length cs
-  line : (corner_at cs (suc m)).line ≡ (corner_at cs m).line
-  some : (corner_at cs m).place <ℤ (corner_at cs (suc m)).place
-  along : (p : ℤ) → (corner_at cs m).place ≤ℤ p → p <ℤ (corner_at cs (suc m)).place
-      → (inside (corner_at cs m).line p ≡ int_lt (pos 0) (corner_at cs m).sign) × (inside ((corner_at cs m).line -ℤ pos 1) p ≡ not (int_lt (pos 0) (corner_at cs m).sign))
-  before : inside (corner_at cs m).line ((corner_at cs m).place -ℤ pos 1) ≡ inside ((corner_at cs m).line -ℤ pos 1) ((corner_at cs m).place -ℤ pos 1)
-  after : inside (corner_at cs m).line (corner_at cs (suc m)).place ≡ inside ((corner_at cs m).line -ℤ pos 1) (corner_at cs (suc m)).place
+  line : (point_at cs (suc m)).line ≡ (point_at cs m).line
+  some : (point_at cs m).place <ℤ (point_at cs (suc m)).place
+  along : (p : ℤ) → (point_at cs m).place ≤ℤ p → p <ℤ (point_at cs (suc m)).place
+      → (inside (point_at cs m).line p ≡ int_lt (pos 0) (point_at cs m).sign) × (inside ((point_at cs m).line -ℤ pos 1) p ≡ not (int_lt (pos 0) (point_at cs m).sign))
+  before : inside (point_at cs m).line ((point_at cs m).place -ℤ pos 1) ≡ inside ((point_at cs m).line -ℤ pos 1) ((point_at cs m).place -ℤ pos 1)
+  after : inside (point_at cs m).line (point_at cs (suc m)).place ≡ inside ((point_at cs m).line -ℤ pos 1) (point_at cs (suc m)).place
 
-stretch : (inside : PixelSet) (cs : List Corner) (high : ℤ) (i m : ℕ) → AreCorners inside cs → NoTouch inside → EndsBelow high inside
+stretch : (inside : PixelSet) (cs : List Point) (high : ℤ) (i m : ℕ) → AreCorners inside cs → NoTouch inside → EndsBelow high inside
     → m ≡ i + i → m < length cs → IsStretch inside cs m
 stretch inside cs high i m corners none empty e below =
     let next = next_on_line inside cs high i m corners none empty e below in
     of next.0 next.1
   where
-    of : suc m < length cs → (corner_at cs (suc m)).line ≡ (corner_at cs m).line → IsStretch inside cs m
+    of : suc m < length cs → (point_at cs (suc m)).line ≡ (point_at cs m).line → IsStretch inside cs m
     of inside_list line_is = record {
       next = inside_list;
       line = line_is;
@@ -213,22 +214,22 @@ stretch inside cs high i m corners none empty e below =
       after =
           let here = level_at inside cs (suc m) corners inside_list in
           let zero_is = signs-even inside cs (suc i) (suc (suc m)) corners none (omega arith) (omega arith) in
-          bits_same _ _ (ap (λ l. bit (inside l (corner_at cs (suc m)).place) -ℤ bit (inside (l -ℤ pos 1) (corner_at cs (suc m)).place)) (sym line_is)
+          bits_same _ _ (ap (λ l. bit (inside l (point_at cs (suc m)).place) -ℤ bit (inside (l -ℤ pos 1) (point_at cs (suc m)).place)) (sym line_is)
           ∙ sym here ∙ zero_is);
     }
       where
-        some : Precedes (corner_at cs m) (corner_at cs (suc m)) → (corner_at cs m).place <ℤ (corner_at cs (suc m)).place
+        some : Precedes (point_at cs m) (point_at cs (suc m)) → (point_at cs m).place <ℤ (point_at cs (suc m)).place
         some (inl p) = absurd (let a = line_is in omega (arith, ints))
         some (inr p) = p.1
 
-        along : (p : ℤ) → (corner_at cs m).place ≤ℤ p → p <ℤ (corner_at cs (suc m)).place
-            → (inside (corner_at cs m).line p ≡ int_lt (pos 0) (corner_at cs m).sign) × (inside ((corner_at cs m).line -ℤ pos 1) p ≡ not (int_lt (pos 0) (corner_at cs m).sign))
+        along : (p : ℤ) → (point_at cs m).place ≤ℤ p → p <ℤ (point_at cs (suc m)).place
+            → (inside (point_at cs m).line p ≡ int_lt (pos 0) (point_at cs m).sign) × (inside ((point_at cs m).line -ℤ pos 1) p ≡ not (int_lt (pos 0) (point_at cs m).sign))
         along p from to =
-            let first = reaches_between cs (corner_at cs m).line p m corners.ascending below (inr (refl, from)) (λ h. not_yet) in
-            bits_apart _ _ (corner_at cs m).sign (sign_is_unit inside cs m corners none below)
-            (sym (corners.change (corner_at cs m).line p) ∙ level-first cs (corner_at cs m).line p (suc m) first ∙ signs-odd inside cs i m corners none e below)
+            let first = reaches_between cs (point_at cs m).line p m corners.ascending below (inr (refl, from)) (λ h. not_yet) in
+            bits_apart _ _ (point_at cs m).sign (sign_is_unit inside cs m corners none below)
+            (sym (corners.change (point_at cs m).line p) ∙ level-first cs (point_at cs m).line p (suc m) first ∙ signs-odd inside cs i m corners none e below)
           where
-            not_yet : ¬ IsReached (corner_at cs (suc m)) (corner_at cs m).line p
+            not_yet : ¬ IsReached (point_at cs (suc m)) (point_at cs m).line p
             not_yet (inl q) = let a = line_is in omega (arith, ints)
             not_yet (inr q) = let a = q.1 in omega (arith, ints)
 
@@ -236,9 +237,9 @@ choose : (even : Bool) (a c o : Bool) → a ≡ o → (even ≡ true → a ≢ c
 choose true a c o e apart same = other_is a c (apart refl) ∙ ap not e
 choose false a c o e apart same = sym (same refl) ∙ e
 
-pub edge_between : (upright : Bool) (inside across : PixelSet) (cs others : List Corner) (e : Edge) (high : ℤ) (i m : ℕ)
+pub edge_between : (upright : Bool) (inside across : PixelSet) (cs others : List Point) (e : Edge) (high : ℤ) (i m : ℕ)
     → AreCorners inside cs → AreCorners across others → AreAcross inside across → NoTouch inside → NoTouch across → EndsBelow high inside
-    → m ≡ i + i → m < length cs → IsBetween upright others (corner_at cs m) (corner_at cs (suc m)) e → IsEdge inside e
+    → m ≡ i + i → m < length cs → IsBetween upright others (point_at cs m) (point_at cs (suc m)) e → IsEdge inside e
 edge_between upright inside across cs others e high i m corners acrosses same none none_across empty is below between = record {
   some = (let a = between.lo in let b = between.hi in let c = st.some in omega (arith, ints));
   along = λ p from to.
@@ -253,17 +254,17 @@ edge_between upright inside across cs others e high i m corners acrosses same no
     st : IsStretch inside cs m
     st = stretch inside cs high i m corners none empty is below
 
-    first : Corner
-    first = corner_at cs m
+    first : Point
+    first = point_at cs m
 
-    last : Corner
-    last = corner_at cs (suc m)
+    last : Point
+    last = point_at cs (suc m)
 
     o : Bool
-    o = int_lt (pos 0) (corner_at cs m).sign
+    o = int_lt (pos 0) (point_at cs m).sign
 
-    opens_is : opens e.side ≡ int_lt (pos 0) (corner_at cs m).sign
-    opens_is = ap opens between.side ∙ opens-side_at upright (int_lt (pos 0) (corner_at cs m).sign)
+    opens_is : opens e.side ≡ int_lt (pos 0) (point_at cs m).sign
+    opens_is = ap opens between.side ∙ opens-side_at upright (int_lt (pos 0) (point_at cs m).sign)
 
     before_same : inside e.line (e.lo -ℤ pos 1) ≡ inside (e.line -ℤ pos 1) (e.lo -ℤ pos 1)
     before_same = rw (between.line, between.lo) st.before
@@ -281,8 +282,8 @@ edge_between upright inside across cs others e high i m corners acrosses same no
         let under = same first.line (first.place -ℤ pos 1) in
         between.low_convex k met.1
         ∙ convex_low (inside first.line first.place) (inside (first.line -ℤ pos 1) first.place) (inside first.line (first.place -ℤ pos 1))
-        (inside (first.line -ℤ pos 1) (first.place -ℤ pos 1)) (int_lt (pos 0) (corner_at cs m).sign) (k % 2 == 0) faces.0 faces.1 st.before
-        (choose (k % 2 == 0) (inside first.line first.place) (inside first.line (first.place -ℤ pos 1)) (int_lt (pos 0) (corner_at cs m).sign) faces.0
+        (inside (first.line -ℤ pos 1) (first.place -ℤ pos 1)) (int_lt (pos 0) (point_at cs m).sign) (k % 2 == 0) faces.0 faces.1 st.before
+        (choose (k % 2 == 0) (inside first.line first.place) (inside first.line (first.place -ℤ pos 1)) (int_lt (pos 0) (point_at cs m).sign) faces.0
         (λ even equal. change.0 even (here ∙ equal ∙ sym under)) (λ odd. sym here ∙ change.1 odd ∙ under))
         ∙ ap (λ l. is_convex inside l first.place) (sym between.line) ∙ ap (is_convex inside e.line) (sym between.lo)
 
@@ -298,19 +299,19 @@ edge_between upright inside across cs others e high i m corners acrosses same no
         let under = same first.line (last.place -ℤ pos 1) in
         between.high_convex k met.1
         ∙ convex_high (inside first.line last.place) (inside (first.line -ℤ pos 1) last.place) (inside first.line (last.place -ℤ pos 1))
-        (inside (first.line -ℤ pos 1) (last.place -ℤ pos 1)) (int_lt (pos 0) (corner_at cs m).sign) (k % 2 == 0) faces.0 faces.1 st.after
-        (choose (k % 2 == 0) (inside first.line (last.place -ℤ pos 1)) (inside first.line last.place) (int_lt (pos 0) (corner_at cs m).sign) faces.0
+        (inside (first.line -ℤ pos 1) (last.place -ℤ pos 1)) (int_lt (pos 0) (point_at cs m).sign) (k % 2 == 0) faces.0 faces.1 st.after
+        (choose (k % 2 == 0) (inside first.line (last.place -ℤ pos 1)) (inside first.line last.place) (int_lt (pos 0) (point_at cs m).sign) faces.0
         (λ even equal. change.0 even (here ∙ sym equal ∙ sym under)) (λ odd. sym under ∙ sym (change.1 odd) ∙ here))
         ∙ ap (λ l. is_convex inside l last.place) (sym between.line) ∙ ap (is_convex inside e.line) (sym between.hi)
 
 -- ---- all edges
 
-pub has_edges : (upright : Bool) (inside across : PixelSet) (cs others : List Corner) (es : List Edge) (high : ℤ)
+pub has_edges : (upright : Bool) (inside across : PixelSet) (cs others : List Point) (es : List Edge) (high : ℤ)
     → AreCorners inside cs → AreCorners across others → AreAcross inside across → NoTouch inside → NoTouch across → EndsBelow high inside
     → ArePaired upright cs others es → HasEdges upright inside es
 has_edges upright inside across cs others es high corners acrosses same none none_across empty paired = record {
   sorted = sorted;
-  sides = λ k below. ap is_vertical (between k below).side ∙ is_vertical-side_at upright (int_lt (pos 0) (corner_at cs (k + k)).sign);
+  sides = λ k below. ap is_vertical (between k below).side ∙ is_vertical-side_at upright (int_lt (pos 0) (point_at cs (k + k)).sign);
   edges = λ k below. edge_between upright inside across cs others (edge_at es k) high k (k + k) corners acrosses same none none_across empty refl (first_below k below) (between k below);
   all = all;
 }
@@ -318,9 +319,9 @@ has_edges upright inside across cs others es high corners acrosses same none non
     first_below : (k : ℕ) → k < length es → k + k < length cs
     first_below k below = let w = paired.within in omega arith
 
-    between : (k : ℕ) → k < length es → IsBetween upright others (corner_at cs (k + k)) (corner_at cs (suc (k + k))) (edge_at es k)
+    between : (k : ℕ) → k < length es → IsBetween upright others (point_at cs (k + k)) (point_at cs (suc (k + k))) (edge_at es k)
     between k below =
-        subst (λ n. IsBetween upright others (corner_at cs (k + k)) (corner_at cs n) (edge_at es k)) (let e : k + k + 1 ≡ suc (k + k) = omega arith in e)
+        subst (λ n. IsBetween upright others (point_at cs (k + k)) (point_at cs n) (edge_at es k)) (let e : k + k + 1 ≡ suc (k + k) = omega arith in e)
         (paired.between k below)
 
     st : (k : ℕ) → k < length es → IsStretch inside cs (k + k)
@@ -331,7 +332,7 @@ has_edges upright inside across cs others es high corners acrosses same none non
         let j_below : j < length es = omega arith in
         from j_below (corners.ascending (suc (j + j)) (k + k) _ (omega arith) (first_below k below))
       where
-        from : j < length es → Precedes (corner_at cs (suc (j + j))) (corner_at cs (k + k)) → EdgePrecedes (edge_at es j) (edge_at es k)
+        from : j < length es → Precedes (point_at cs (suc (j + j))) (point_at cs (k + k)) → EdgePrecedes (edge_at es j) (edge_at es k)
         from j_below (inl p) =
             inl (let a = (between j j_below).line in let b = (between k below).line in let c = (st j j_below).line in omega (arith, ints))
         from j_below (inr p) =
@@ -366,7 +367,7 @@ has_edges upright inside across cs others es high corners acrosses same none non
                 let below : k < length es = omega arith in
                 on k below (first.reached (k + k) (omega arith)) (first.beyond (suc (k + k)) (omega arith) next_in)
               where
-                on : (k : ℕ) → k < length es → IsReached (corner_at cs (k + k)) line place → ¬ IsReached (corner_at cs (suc (k + k))) line place
+                on : (k : ℕ) → k < length es → IsReached (point_at cs (k + k)) line place → ¬ IsReached (point_at cs (suc (k + k))) line place
                     → (k : ℕ) × (k < length es) × ((edge_at es k).line ≡ line) × ((edge_at es k).lo ≤ℤ place) × (place <ℤ (edge_at es k).hi)
                 on k below (inl p) not_yet = absurd (not_yet (inl (let a = (st k below).line in omega (arith, ints))))
                 on k below (inr p) not_yet =

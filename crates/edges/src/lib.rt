@@ -4,10 +4,12 @@
 //! corners of the set, and without a corner touch each second one starts an edge that the next one ends.
 #![tactic(auto)]
 
-mod corner;
 mod rect_corners;
 mod rect_edges;
 
-pub use corner::Corner;
 pub use rect_corners::find_corners;
 pub use rect_edges::find_edges;
+/// A corner of a set of pixels, as it is met along the vertical or the horizontal lines.
+///
+/// Its sign is 1 or -1: the pixels up right and down left of it less those up left and down right.
+pub use signed_points::Point as Corner;

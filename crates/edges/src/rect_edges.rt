@@ -1,17 +1,17 @@
 //! Finds the edges of the pixels that rectangles cover.
 
 ghost use Rattle.std.specs.Prelude.{◌≡◌, ◌<◌, ◌↔◌, ℕ, ℤ, IfOk, IsTrue, length};
-ghost use Rattle.edges.specs.Corners.{IsAscending, corner_at};
+ghost use Rattle.signed_points.specs.Points.{IsAscending, point_at};
 ghost use Rattle.outline_model.specs.Edges.{AreEdges};
 ghost use Rattle.edges.specs.Pairs.{ArePaired, HasPoint, IsAhead, IsAt, convex_at, side_at};
 ghost use Rattle.opc_base.specs.Plane.{cover};
 ghost use Rattle.edges.specs.Disjoint.{AreSolidAndApart};
 ghost use Rattle.opc_base.specs.Runs.{IsCornerTouch};
 
-use crate::corner::Corner;
 use crate::rect_corners::find_corners;
 use opc_base::{Rect, Side};
 use outline_model::Edge;
+use signed_points::Point;
 use std::alloc::{AllocError, Global};
 
 /// The edges of the pixels that the rectangles cover: the vertical ones by their lines from the left, then the horizontal
@@ -33,12 +33,12 @@ pub fn find_edges(alloc: Global, rects: &[Rect]) -> Result<Vec<Edge>, AllocError
 /// the lines across.
 fn pair_corners(
     alloc: Global,
-    corners: &[Corner],
-    others: &[Corner],
+    corners: &[Point],
+    others: &[Point],
     upright: bool,
 ) -> Result<Vec<Edge>, AllocError>
     requires ascending { IsAscending others.now }
-    requires shared { (k : ℕ) → k < length corners.now → HasPoint others.now (corner_at corners.now k).place (corner_at corners.now k).line }
+    requires shared { (k : ℕ) → k < length corners.now → HasPoint others.now (point_at corners.now k).place (point_at corners.now k).line }
     ensures { IfOk result (λ es. ArePaired upright corners.now others.now es.items) }
 {
     let mut edges = Vec::new(alloc);
@@ -73,7 +73,7 @@ fn side_of(upright: bool, opening: bool) -> Side
 }
 
 /// The number of the corner at this place of this line.
-fn position_of(corners: &[Corner], line: i32, place: i32) -> usize
+fn position_of(corners: &[Point], line: i32, place: i32) -> usize
     requires ascending { IsAscending corners.now }
     requires present { HasPoint corners.now line place }
     ensures { IsAt corners.now line place result }
@@ -93,7 +93,7 @@ fn position_of(corners: &[Corner], line: i32, place: i32) -> usize
 }
 
 /// Whether the corner is met before this place of this line.
-fn is_ahead(corner: &Corner, line: i32, place: i32) -> bool
+fn is_ahead(corner: &Point, line: i32, place: i32) -> bool
     ensures { IsTrue result ↔ IsAhead corner.now line place }
 {
     corner.line < line || corner.line == line && corner.place < place

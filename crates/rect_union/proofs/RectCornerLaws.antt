@@ -1,18 +1,18 @@
 -- The four signed corners of each rectangle sum to how many rectangles cover a pixel.
-use Rattle.std.proofs.Common.{◌≡◌, inl, inr, ℕ, suc, ◌<◌, ℤ, pos, ◌+ℤ◌, ◌<ℤ◌, ◌≤ℤ◌, int_le, int_lt, Bool, true, false, ◌&&◌, ◌||◌, if◌then◌else◌, List, [], ◌∷◌, ◌++◌, length, get_or, refl, arith}
+use Rattle.std.proofs.Common.{◌≡◌, inl, inr, ℕ, suc, ◌<◌, ℤ, pos, ◌+ℤ◌, ◌-ℤ◌, ◌<ℤ◌, ◌≤ℤ◌, int_le, int_lt, Bool, true, false, ◌&&◌, ◌||◌, if◌then◌else◌, List, [], ◌∷◌, ◌++◌, length, get_or, refl, arith}
 use Rattle.std.proofs.lemmas.Int.{ints}
 use Rattle.opc_base.specs.declared.plane.Corner.{Corner}
 use Rattle.opc_base.specs.declared.plane.Rect.{Rect}
 use Rattle.opc_base.specs.Canonical.{AreCanonical, IsSolid, Precedes}
 use Rattle.opc_base.specs.Corners.{quadrant_sum}
 use Rattle.opc_base.specs.Plane.{IsRectWithin, cover, indicator, rect_cover}
-use Rattle.std.proofs.lemmas.List.Elements.{All-push}
+use Rattle.std.proofs.lemmas.List.Elements.{All-append, All-push}
 use Rattle.std.specs.Prelude.{All}
-use Rattle.rect_union.specs.CornerSets.{IsCornerWithin, corner, rect_sign}
+use Rattle.rect_union.specs.CornerSets.{IsCornerWithin, corner, four_corners, rect_sign}
 use Rattle.opc_base.specs.Sums.{sum_each}
 use Rattle.rect_union.specs.Outlines.{path_count}
 use Rattle.rect_union.proofs.LowerSides.{known}
-use Rattle.rect_union.proofs.SumLaws.{sum_each-push}
+use Rattle.rect_union.proofs.SumLaws.{sum_each-append}
 
 corner_parts : (a b c d e f : Bool) (s t : ℤ) → s +ℤ t ≡ pos 0 → (b ≡ true → c ≡ false) → (b ≡ false → c ≡ true) → (e ≡ true → f ≡ false) → (e ≡ false → f ≡ true)
     → (c ≡ true → a ≡ true) → (f ≡ true → d ≡ true)
@@ -20,39 +20,39 @@ corner_parts : (a b c d e f : Bool) (s t : ℤ) → s +ℤ t ≡ pos 0 → (b �
     ≡ (if a && d then s else pos 0) +ℤ (if c && d then t else pos 0) +ℤ (if a && f then t else pos 0) +ℤ (if c && f then s else pos 0)
 corner_parts a b c d e f s t o g h i j k l = grind (arith, ints)
 
-four_corners : (x0 x1 y0 y1 x y s t : ℤ) → s +ℤ t ≡ pos 0 → x0 <ℤ x1 → y0 <ℤ y1
+corners_sum : (x0 x1 y0 y1 x y s t : ℤ) → s +ℤ t ≡ pos 0 → x0 <ℤ x1 → y0 <ℤ y1
     → (if int_le x0 x && int_lt x x1 && int_le y0 y && int_lt y y1 then s else pos 0)
     ≡ (if int_le x0 x && int_le y0 y then s else pos 0) +ℤ (if int_le x1 x && int_le y0 y then t else pos 0)
     +ℤ (if int_le x0 x && int_le y1 y then t else pos 0) +ℤ (if int_le x1 x && int_le y1 y then s else pos 0)
-four_corners x0 x1 y0 y1 x y s t opposite wide high =
+corners_sum x0 x1 y0 y1 x y s t opposite wide high =
     corner_parts (int_le x0 x) (int_lt x x1) (int_le x1 x) (int_le y0 y) (int_lt y y1) (int_le y1 y) s t opposite
     (λ h. grind (arith, ints)) (λ h. grind (arith, ints)) (λ h. grind (arith, ints)) (λ h. grind (arith, ints)) (λ h. grind (arith, ints)) (λ h. grind (arith, ints))
 
-abbrev with_rect : List Corner → Rect → ℤ → ℤ → List Corner
-with_rect old r s t = (((old ++ corner r.x0 r.y0 s ∷ []) ++ corner r.x1 r.y0 t ∷ []) ++ corner r.x0 r.y1 t ∷ []) ++ corner r.x1 r.y1 s ∷ []
+four_sum : (f : Corner → ℤ) (a b c d : Corner) → sum_each f (a ∷ b ∷ c ∷ d ∷ []) ≡ f a +ℤ f b +ℤ f c +ℤ f d
+unfolding sum_each
+four_sum f a b c d = omega (arith, ints)
 
-pub pushes_rect : (old : List Corner) (r : Rect) (s t : ℤ) → s +ℤ t ≡ pos 0 → IsSolid r → (x y : ℤ)
-    → quadrant_sum (with_rect old r s t) x y ≡ quadrant_sum old x y +ℤ rect_sign s r x y
-pushes_rect old r s t opposite solid x y =
+pub pushes_rect : (old : List Corner) (r : Rect) (s : ℤ) → IsSolid r → (x y : ℤ)
+    → quadrant_sum (old ++ four_corners s r) x y ≡ quadrant_sum old x y +ℤ rect_sign s r x y
+pushes_rect old r s solid x y =
     let f : Corner → ℤ = λ c. if int_le c.x x && int_le c.y y then c.sign else pos 0 in
-    let one : List Corner = old ++ corner r.x0 r.y0 s ∷ [] in
-    let two : List Corner = one ++ corner r.x1 r.y0 t ∷ [] in
-    let three : List Corner = two ++ corner r.x0 r.y1 t ∷ [] in
-    let a = sum_each-push f old (corner r.x0 r.y0 s) in
-    let b = sum_each-push f one (corner r.x1 r.y0 t) in
-    let c = sum_each-push f two (corner r.x0 r.y1 t) in
-    let d = sum_each-push f three (corner r.x1 r.y1 s) in
-    let parts = four_corners r.x0 r.x1 r.y0 r.y1 x y s t opposite solid.wide solid.high in omega (arith, ints)
+    let t : ℤ = pos 0 -ℤ s in
+    let all = sum_each-append f old (four_corners s r) in
+    let four = four_sum f (corner r.x0 r.y0 s) (corner r.x1 r.y0 t) (corner r.x0 r.y1 t) (corner r.x1 r.y1 s) in
+    let parts = corners_sum r.x0 r.x1 r.y0 r.y1 x y s t (omega (arith, ints)) solid.wide solid.high in omega (arith, ints)
 
-pub pushes_within : (old : List Corner) (r : Rect) (s t : ℤ) → All (IsCornerWithin 1048576) old → IsRectWithin 1048576 r → All (IsCornerWithin 1048576) (with_rect old r s t)
-pushes_within old r s t within near =
-    let one : List Corner = old ++ corner r.x0 r.y0 s ∷ [] in
-    let two : List Corner = one ++ corner r.x1 r.y0 t ∷ [] in
-    let three : List Corner = two ++ corner r.x0 r.y1 t ∷ [] in
-    All-push (IsCornerWithin 1048576) three (corner r.x1 r.y1 s)
-    (All-push (IsCornerWithin 1048576) two (corner r.x0 r.y1 t)
-    (All-push (IsCornerWithin 1048576) one (corner r.x1 r.y0 t)
-    (All-push (IsCornerWithin 1048576) old (corner r.x0 r.y0 s) within (near.0, near.1)) (near.2, near.1)) (near.0, near.3)) (near.2, near.3)
+pub pushes_within : (old : List Corner) (r : Rect) (s : ℤ) → All (IsCornerWithin 1048576) old → IsRectWithin 1048576 r → All (IsCornerWithin 1048576) (old ++ four_corners s r)
+pushes_within old r s within near =
+    let t : ℤ = pos 0 -ℤ s in
+    let a : Corner = corner r.x0 r.y0 s in
+    let b : Corner = corner r.x1 r.y0 t in
+    let c : Corner = corner r.x0 r.y1 t in
+    let d : Corner = corner r.x1 r.y1 s in
+    All-append (IsCornerWithin 1048576) old (four_corners s r) within
+    (All-push (IsCornerWithin 1048576) (a ∷ b ∷ c ∷ []) d
+    (All-push (IsCornerWithin 1048576) (a ∷ b ∷ []) c
+    (All-push (IsCornerWithin 1048576) (a ∷ []) b
+    (All-push (IsCornerWithin 1048576) [] a (λ k e below. absurd (omega arith)) (near.0, near.1)) (near.2, near.1)) (near.0, near.3)) (near.2, near.3))
 
 -- ---- canonical rectangles
 

@@ -13,6 +13,11 @@ unfolding sum_each
 sum_each-push f [] x = omega (arith, ints)
 sum_each-push f (y ∷ xs) x = omega (arith, ints, sum_each-push f xs x)
 
+pub sum_each-append : {A : Type 0} (f : A → ℤ) (xs ys : List A) → sum_each f (xs ++ ys) ≡ sum_each f xs +ℤ sum_each f ys
+unfolding sum_each
+sum_each-append f [] ys = omega (arith, ints)
+sum_each-append f (x ∷ xs) ys = omega (arith, ints, sum_each-append f xs ys)
+
 -- one more item of a list
 pub sum_each-more : {A : Type 0} (f : A → ℤ) (xs : List A) (i : ℕ) (d : A) → i < length xs →
     sum_each f (take (i + 1) xs) ≡ sum_each f (take i xs) +ℤ f (get_or xs i d)

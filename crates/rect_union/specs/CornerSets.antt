@@ -1,5 +1,5 @@
 -- Sets of pixels that are given by signed corners.
-use Rattle.std.specs.Prelude.{◌≡◌, ◌⊎◌, ℕ, ◌≤◌, ℤ, pos, ◌≤ℤ◌, unsigned_abs, if◌then◌else◌, List, All}
+use Rattle.std.specs.Prelude.{◌≡◌, ◌⊎◌, ℕ, ◌≤◌, ℤ, pos, ◌≤ℤ◌, ◌-ℤ◌, unsigned_abs, if◌then◌else◌, List, [], ◌∷◌, All}
 use Rattle.std.specs.Ordering.{int_eq}
 use Rattle.opc_base.specs.declared.plane.Corner.{Corner}
 use Rattle.opc_base.specs.declared.plane.Rect.{Rect}
@@ -27,3 +27,8 @@ rect_sign sign r x y = if rect_cover r x y then sign else pos 0
 
 abbrev pub corner : ℤ → ℤ → ℤ → Corner
 corner x y sign = record { x = x; y = y; sign = sign }
+
+-- from the lower left by rows
+abbrev pub four_corners : ℤ → Rect → List Corner
+four_corners sign r =
+    corner r.x0 r.y0 sign ∷ corner r.x1 r.y0 (pos 0 -ℤ sign) ∷ corner r.x0 r.y1 (pos 0 -ℤ sign) ∷ corner r.x1 r.y1 sign ∷ []

@@ -1,4 +1,11 @@
 //! The pixels that placed outlines cover, as canonical rectangles.
+//!
+//! A sweep goes up the rows, counts how often each outline winds round the pixels of a row, and stacks the runs in which
+//! some count is not 0. It costs its rows times the columns that are active in a row, so many outlines are not swept at
+//! once. Each four of them are swept by themselves, and the disjoint rectangles that they cover stand for them; those
+//! are joined by fours in turn, until few outlines are left for one last sweep. Where more than 256 rectangles are swept
+//! and many lie in a row, the sweep goes in vertical strips from the left: what ends at the right border of a strip is
+//! swept again with the next one.
 #![tactic(auto)]
 
 mod columns;

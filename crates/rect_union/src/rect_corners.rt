@@ -1,11 +1,11 @@
 //! The corners of a set that is given by canonical rectangles.
 
-ghost use Rattle.std.specs.Prelude.{◌≡◌, ◌⊎◌, ◌+ℤ◌, ◌<◌, ◌^◌, ◌∷◌, ◌++◌, [], ℤ, pos, negsuc, true, false, length, All, IfOk, OnOk, IfSome, IfNone};
+ghost use Rattle.std.specs.Prelude.{◌≡◌, ◌⊎◌, ◌+ℤ◌, ◌<◌, ◌^◌, ℤ, pos, negsuc, true, false, length, All, IfOk, OnOk, OnErr, IfSome, IfNone};
 ghost use Rattle.opc_base.specs.Canonical.{AreCanonical, IsSolid};
 ghost use Rattle.opc_base.specs.Corners.{quadrant_sum};
 ghost use Rattle.opc_base.specs.Plane.{IsRectWithin, cover};
 ghost use Rattle.rect_union.specs.CornerCount.{HasCornerCount};
-ghost use Rattle.rect_union.specs.CornerSets.{IsCornerWithin, corner, rect_sign};
+ghost use Rattle.rect_union.specs.CornerSets.{IsCornerWithin, corner, four_corners, rect_sign};
 ghost use Rattle.rect_union.specs.Merging.{AreCornersIn, AreMerged, EndsPoint, GoesOn, IsAtPointOf, PushesSigned, Settles};
 ghost use Rattle.rect_union.specs.Outlines.{path_count};
 ghost use Rattle.rect_union.specs.Quadrants.{AreInRows, quadrant_weight};
@@ -91,19 +91,29 @@ pub fn push_corners(corners: &mut Vec<Corner>, rect: &Rect, sign: i8) -> Result<
     requires sign { (sign ≡ pos 1) ⊎ (sign ≡ negsuc 0) }
     ensures sums { OnOk result ((x y : ℤ) → quadrant_sum corners.new.items x y ≡ quadrant_sum corners.old.items x y +ℤ rect_sign sign rect.now x y) }
     ensures within { OnOk result (All (IsCornerWithin 1048576) corners.old.items → IsRectWithin 1048576 rect.now → All (IsCornerWithin 1048576) corners.new.items) }
+    ensures unchanged { OnErr result (corners.new.items ≡ corners.old.items) }
 {
-    push_corner(corners, rect.x0, rect.y0, sign)?;
-    push_corner(corners, rect.x1, rect.y0, -sign)?;
-    push_corner(corners, rect.x0, rect.y1, -sign)?;
-    push_corner(corners, rect.x1, rect.y1, sign)?;
+    corners.extend_from_slice(&four_corners(rect, sign))?;
     Ok(())
 }
 
-fn push_corner(corners: &mut Vec<Corner>, x: i32, y: i32, sign: i8) -> Result<(), NoMemory>
-    ensures pushed { OnOk result (corners.new.items ≡ corners.old.items ++ corner x y sign ∷ []) }
+/// The corners of a rectangle, which add this sign at each of its pixels.
+fn four_corners(rect: &Rect, sign: i8) -> [Corner; 4]
+    requires sign { (sign ≡ pos 1) ⊎ (sign ≡ negsuc 0) }
+    ensures { result ≡ four_corners sign rect.now }
 {
-    corners.push(Corner { x, y, sign })?;
-    Ok(())
+    [
+        corner(rect.x0, rect.y0, sign),
+        corner(rect.x1, rect.y0, -sign),
+        corner(rect.x0, rect.y1, -sign),
+        corner(rect.x1, rect.y1, sign),
+    ]
+}
+
+fn corner(x: i32, y: i32, sign: i8) -> Corner
+    ensures { result ≡ corner x y sign }
+{
+    Corner { x, y, sign }
 }
 
 /// The quadrants with those at one point made one, whose sign is their sum, and without those whose sign is then 0.

@@ -1,12 +1,13 @@
 //! Unions of polygons, worked out by hand.
 
-ghost use Rattle.std.specs.Prelude.{◌≡◌, ◌⊎◌, true, All, OnOk};
+ghost use Rattle.std.specs.Prelude.{◌≡◌, ◌⊎◌, ◌≤ℤ◌, ◌<ℤ◌, pos, true, All, IfOk, OnOk};
 ghost use Rattle.opc_base.specs.Cover.{IsClosed, IsPlaced, IsPolygon, IsRectilinear, IsStraight};
 ghost use Rattle.opc_base.specs.Plane.{IsPixWithin};
 
 use super::*;
-use crate::spread::rects_of;
+use crate::spread::{are_many_in_rows, rects_of};
 use crate::strips::striped_rects;
+use crate::swept::swept_rects;
 use opc_base::{NoMemory, Outline, Pix, Pixes, Placed, Rect};
 use std::alloc::Global;
 use std::test::Fail;
@@ -235,5 +236,90 @@ fn sweeps_in_strips(rt: HostRuntime) -> Result<(), Fail> {
         rect(1, 7, 2, 9),
     ];
     assert_eq!(rt; striped.as_slice(), wanted.as_slice());
+    Ok(())
+}
+
+/// Rectangles that begin at a column below `across`, with sides up to these sizes.
+#[derive(Clone, Copy)]
+struct Layout {
+    across: u16,
+    width: u16,
+    height: u16,
+}
+
+/// So many rectangles of the layout, each third one walked twice.
+fn outlines_of(alloc: Global, layout: &Layout, count: u16) -> Result<Vec<Outline>, NoMemory>
+    ensures { IfOk result (λ outlines. All IsPlaced outlines.items) }
+{
+    let mut state = 1;
+    let mut outlines = Vec::new(alloc);
+    for index in 0..count {
+        let x0 = roll(&mut state, layout.across);
+        let drawn = Rect {
+            x0,
+            y0: -roll(&mut state, layout.height),
+            x1: x0 + 1 + roll(&mut state, layout.width),
+            y1: 1 + roll(&mut state, layout.height),
+        };
+        add_walk(alloc, &mut outlines, &drawn, index % 3 == 0)?;
+    }
+    Ok(outlines)
+}
+
+/// Adds the rectangle, walked once or twice.
+fn add_walk(
+    alloc: Global,
+    outlines: &mut Vec<Outline>,
+    rect: &Rect,
+    twice: bool,
+) -> Result<(), NoMemory>
+    requires { All IsPlaced outlines.old.items }
+    ensures { OnOk result (All IsPlaced outlines.new.items) }
+{
+    let a = (rect.x0, rect.y0);
+    let b = (rect.x1, rect.y0);
+    let c = (rect.x1, rect.y1);
+    let d = (rect.x0, rect.y1);
+    if twice {
+        add(alloc, outlines, &[a, b, c, d, a, b, c, d, a])?;
+    } else {
+        add(alloc, outlines, &[a, b, c, d, a])?;
+    }
+    Ok(())
+}
+
+/// The next number of a linear congruential generator, below `faces` or 0.
+fn roll(state: &mut u32, faces: u16) -> i32
+    ensures least { pos 0 ≤ℤ result }
+    ensures below { result <ℤ pos 65536 }
+{
+    *state = state.wrapping_mul(1_664_525).wrapping_add(1_013_904_223);
+    ((*state >> 16) % u32::from(faces.max(1))) as i32
+}
+
+fn sized(across: u16, width: u16, height: u16) -> Layout {
+    Layout {
+        across,
+        width,
+        height,
+    }
+}
+
+// Narrow columns, and long rectangles of which most overlap, on few columns and on many.
+#[test]
+fn unites_as_one_sweep_does(rt: HostRuntime) -> Result<(), Fail> {
+    let alloc = rt.alloc();
+    for layout in &[
+        sized(4000, 1, 1000),
+        sized(600, 400, 2000),
+        sized(30_000, 300, 60),
+    ] {
+        let outlines = outlines_of(alloc, layout, 300)?;
+        let rects = rects_of(alloc, &outlines)?;
+        assert!(rt; are_many_in_rows(alloc, &rects)?);
+        let swept = swept_rects(alloc, &outlines)?;
+        let region = union(alloc, &Placed::from_outlines(outlines))?;
+        assert_eq!(rt; region.rects(), swept.as_slice());
+    }
     Ok(())
 }

@@ -4,9 +4,11 @@ use Rattle.opc_base.specs.Corners.{point_sum, quadrant_sum}
 use Rattle.opc_base.specs.Plane.{cover, indicator, rect_cover}
 use Rattle.opc_base.specs.declared.plane.Rect.{Rect}
 use Rattle.opc_base.proofs.SumLaws.{sum_each-more, sum_each_start}
-use Rattle.corners.specs.Points.{IsInOrder, SignsWithin, corner_from, quadrants}
+use Rattle.corners.specs.Points.{corner_from, quadrants}
+use Rattle.signed_points.specs.Points.{IsInOrder, SignsWithin}
 use Rattle.corners.specs.Windows.{AreInRows, IsCornerIn, clip, in_window}
-use Rattle.corners.proofs.MergeLaws.{in_order, quadrants-nil}
+use Rattle.corners.proofs.MergeLaws.{quadrants-nil}
+use Rattle.signed_points.proofs.MergeLaws.{in_order}
 use Rattle.corners.proofs.SignLaws.{add_up_near, each_in, in_rows, quadrants_are, signs_are, signs_within}
 use Rattle.corners.proofs.WindowLaws.{merged_sums}
 use Rattle.corners.proofs.window_corners.corners_of.Goals as goal

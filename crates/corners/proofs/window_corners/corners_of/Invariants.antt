@@ -2,7 +2,8 @@ use Rattle.std.proofs.Common.{◌≡◌, ◌*◌, ◌≤◌, ℤ, length, take}
 use Rattle.opc_base.specs.Plane.{indicator, rect_cover}
 use Rattle.opc_base.specs.Sums.{sum_each}
 use Rattle.opc_base.specs.declared.plane.Rect.{Rect}
-use Rattle.corners.specs.Points.{SignsWithin, quadrants}
+use Rattle.corners.specs.Points.{quadrants}
+use Rattle.signed_points.specs.Points.{SignsWithin}
 use Rattle.corners.specs.Windows.{clip}
 use Rattle.corners.proofs.window_corners.corners_of.Given as goal
 
