@@ -1,24 +1,18 @@
 -- The graph of a library's references.
-use Rattle.std.proofs.Common.{◌≡◌, ℕ, zero, suc, ◌<◌, inl, inr, ◌↔◌, Bool, true, false, Some, List, [], length, set, get_or, slice_index, Contains, map, refl, ap, sym, ◌∙◌, subst, arith}
+use Rattle.std.proofs.Common.{◌≡◌, ℕ, zero, suc, ◌<◌, inl, inr, ◌↔◌, Bool, true, false, List, length, set, get_or, slice_index, Contains, map, refl, ap, sym, ◌∙◌, subst, arith}
 use Rattle.std.proofs.lemmas.Bool.{cases_eq}
 use Rattle.std.proofs.lemmas.List.{get_or-set_same, get_or-set_other, length-map}
-use Rattle.std.proofs.lemmas.List.Quantifiers.{position-Some}
 use Rattle.gds_model.specs.declared.elements.Structure.{Structure}
 use Rattle.gds_model.specs.declared.shape.Shape.{Shape}
 use Rattle.gds_model.specs.Reach as reach
-use Rattle.gds_model.specs.Reach.{References, IsOnCycle, elements_at, number_of, is_same_name}
+use Rattle.gds_model.specs.Reach.{References, IsOnCycle, elements_at}
+use Rattle.gds_model.proofs.Chains.{number_below}
 use Rattle.gds_expand.specs.Orders.{IsGraphOf}
 use Rattle.gds_expand.specs.Parts.{parts_in}
 use Rattle.gds_expand.specs.Points.{Plan, targets_of, IsOrderOf}
 use Rattle.gds_expand.proofs.PartLemmas.{reference_of_target, target_of_reference}
 use Rattle.gds_expand.proofs.RowLemmas.{parts_of_rows, references_of_rows}
 use Rattle.structure_graph.specs.Graph.{Graph, references_of, Chain, Reaches, ReachesByReference, IsClosed, IsBottomUp, IsMarked}
-
-blank : Structure
-blank = record { name = []; elements = [] }
-
-pub number_below : (library : List Structure) (name : List ℕ) (t : ℕ) → number_of library name ≡ Some t → t < length library
-number_below library name t e = (position-Some (λ (s : Structure). is_same_name s.name name) library t blank e).0
 
 pub closed_graph : (library : List Structure) (graph : Graph) → IsGraphOf library graph → IsClosed graph
 closed_graph library graph g s t there =

@@ -16,12 +16,13 @@ use Rattle.gds_model.specs.PlacedList.{Mapped, elements_points, placed_list, pro
 use Rattle.gds_model.specs.PlaceFaults.{AreReferencesRight, HasNoCycle, IsCycleFault, IsFaultFrom, IsPlacement, chosen_list, first_fault, point_count, saturated}
 use Rattle.gds_model.specs.Reach.{elements_at, number_of}
 use Rattle.gds_model.specs.Reach as reach
+use Rattle.gds_model.proofs.Chains.{chain_below}
 use Rattle.gds_model.proofs.PointLaws.{total_points-placed_in}
 use Rattle.gds_expand.specs.Orders.{IsGraphOf, IsOrder, IsOrderFrom}
 use Rattle.gds_expand.specs.Parts.{parts_in}
 use Rattle.gds_expand.specs.Points.{Plan, parts_points, points_in, targets_of}
 use Rattle.gds_expand.specs.Rows.{IsRight}
-use Rattle.gds_expand.proofs.GraphLemmas.{graph_of_rows, cycle_from, cycle_to, number_below, reaches_from, reaches_to}
+use Rattle.gds_expand.proofs.GraphLemmas.{graph_of_rows, cycle_from, cycle_to, reaches_from, reaches_to}
 use Rattle.gds_expand.proofs.PartLemmas.{points_in_parts}
 use Rattle.gds_expand.proofs.RankLemmas.{not_on_cycle}
 use Rattle.gds_expand.proofs.RowLemmas.{parts_of_rows}
@@ -49,10 +50,6 @@ pub reached_in : (graph : Graph) (start s : ℕ) → IsClosed graph → start < 
 reached_in graph start s closed inside (zero, same) = subst (λ (x : ℕ). x < length graph) same inside
 reached_in graph start s closed inside (suc n, (u, chain, there)) = closed u s there
 
-reached_below : (library : List Structure) (top s n : ℕ) → top < length library → reach.Chain library top s n → s < length library
-reached_below library top s zero inside same = subst (λ (x : ℕ). x < length library) same inside
-reached_below library top s (suc n) inside (u, chain, named) = number_below library _ s named.2
-
 pub order_in : (library : List Structure) (graph : Graph) (top : ℕ) (order : List ℕ) → IsGraphOf library graph → top < length library →
     IsOrderFrom graph top order → IsOrder library order
 order_in library graph top order g inside o = record {
@@ -64,7 +61,7 @@ order_in library graph top order g inside o = record {
     each : (s : ℕ) → Contains order s → s < length library
     each s there =
         let reached = reaches_from library graph g top s (o.only_reached s there) in
-        reached_below library top s reached.0 inside reached.1
+        chain_below library top s reached.0 inside reached.1
 
 pub no_cycle : (library : List Structure) (graph : Graph) (top : ℕ) (order : List ℕ) → IsGraphOf library graph → top < length library →
     IsOrderFrom graph top order → HasNoCycle library top

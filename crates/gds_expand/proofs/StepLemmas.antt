@@ -17,7 +17,7 @@ use Rattle.gds_expand.specs.declared.walk.Step.TheVariants.{Copy}
 use Rattle.gds_expand.specs.Orders.{IsOrder, IsPlanOf}
 use Rattle.gds_expand.specs.Rows.{IsRow}
 use Rattle.gds_expand.specs.Steps.{Plan, IsRanked, steps_of, step_places}
-use Rattle.gds_expand.proofs.GraphLemmas.{number_below}
+use Rattle.gds_model.proofs.Chains.{number_below}
 use Rattle.gds_expand.proofs.PlanLaws.{IsPlanFor, Means, plan_places-is}
 use Rattle.gds_expand.proofs.RankLemmas.{place_in, place_below, place_most, place_falls, falls_by_place}
 use Rattle.gds_expand.proofs.RowRanks.{IsRankedCopy, named_reference, placed_by_elements, ranked_copy, row_means}

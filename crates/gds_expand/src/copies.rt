@@ -96,7 +96,7 @@ fn push_row(
     steps: &mut Vec<Step<'_>>,
 ) -> Result<(), AllocError>
     requires right { own_fault reference.now ≡ None }
-    requires row { row < unsigned_abs (rows_of reference.now.array) }
+    requires in_array { row < unsigned_abs (rows_of reference.now.array) }
     requires columns { columns ≤ unsigned_abs (columns_of reference.now.array) }
     requires near { IsWithin (2 ^ 61) base.now.placement.shift }
     ensures { OnOk result (AddsCopies (map (λ column. copy_map reference.now row column) (range_with_len 0 columns)) base.now steps.old.items steps.new.items) }

@@ -3,7 +3,7 @@
 ghost use Rattle.std.specs.Prelude.{◌≡◌, ℕ, ◌⊎◌, ◌<◌, ◌≤◌, All, Contains, IfOk, IfErr, OnOk, Some, length};
 ghost use Rattle.opc_base.specs.Cover.{IsPlaced};
 ghost use Rattle.gds_model.specs.declared.place_fault.PlaceFault.TheVariants as faults;
-ghost use Rattle.gds_model.specs.PlaceFaults.{AreReferencesRight, IsFaultFrom, IsPlaceFault, IsPlacement, IsReferenceFault, saturated};
+ghost use Rattle.gds_model.specs.PlaceFaults.{AreReferencesRight, IsFaultFrom, IsPlaceFault, IsPlacement, IsReferenceFault, IsWhole, saturated};
 ghost use Rattle.gds_model.specs.Reach.{number_of};
 ghost use Rattle.gds_expand.specs.Orders.{IsGraphOf, IsOrderFrom};
 ghost use Rattle.gds_expand.specs.Points.{IsOrderOf, points_in};
@@ -31,6 +31,7 @@ const MAX_POINTS: u64 = 1_048_576;
 /// its structure. Offsets are those of elements in the file.
 pub fn expand(alloc: Global, library: &Library, pick: &Pick) -> Result<Placed, PlaceFault>
     ensures placement { IfOk result (λ placed. IsPlacement library.now.structures pick.now placed) }
+    ensures whole { IfOk result (λ placed. IsWhole library.now.structures pick.now placed) }
     ensures placed { IfOk result (λ placed. All IsPlaced placed) }
     ensures fault { IfErr result (λ fault. (fault ≡ faults.NoMemory) ⊎ IsPlaceFault library.now.structures pick.now fault) }
 {

@@ -1,6 +1,7 @@
 //! Shapes in pixels, and how references place points.
 
-ghost use Rattle.std.specs.Prelude.{◌≤◌, length, IfOk};
+ghost use Rattle.std.specs.Prelude.{◌≤◌, length, IfOk, pos};
+ghost use Rattle.opc_base.specs.Ranges.{IsBetween};
 
 use crate::placement::Placement;
 use crate::shapes::outline_of;
@@ -20,8 +21,15 @@ pub(crate) fn top(alloc: Global) -> Result<Name, AllocError>
     Ok(Name::from_vec(bytes))
 }
 
-/// A shape at offset 98, on layer 1, where it stands in the file.
-fn draw(alloc: Global, kind: ShapeKind, points: &[(i32, i32)]) -> Result<Outline, PlaceFault> {
+/// A shape at offset 98, on layer 1, where it stands in the file, in pixels of this grid.
+fn draw(
+    alloc: Global,
+    grid: i32,
+    kind: ShapeKind,
+    points: &[(i32, i32)],
+) -> Result<Outline, PlaceFault>
+    requires { IsBetween (pos 1) (pos 1000) grid }
+{
     let mut list = Vec::new(alloc);
     for (x, y) in points {
         list.push(Point { x: *x, y: *y })?;
@@ -37,7 +45,7 @@ fn draw(alloc: Global, kind: ShapeKind, points: &[(i32, i32)]) -> Result<Outline
         top: top(alloc)?,
         layer: 1,
         datatype: 0,
-        grid: 1,
+        grid,
     };
     let placed = PlacedShape {
         shape: &shape,
@@ -75,7 +83,7 @@ fn draws_paths(rt: HostRuntime) -> Result<(), PlaceFault> {
             begin: 2,
             end: 5,
         };
-        match draw(alloc, kind, &corner)? {
+        match draw(alloc, 1, kind, &corner)? {
             Outline::Path(drawn) => assert_eq!(rt; drawn.as_slice(), &rects[..]),
             Outline::Polygon(_) => panic!(rt; "a path is no polygon"),
         }
@@ -86,7 +94,7 @@ fn draws_paths(rt: HostRuntime) -> Result<(), PlaceFault> {
         begin: 0,
         end: 0,
     };
-    match draw(alloc, hairline, &[(0, 0), (1, 1)])? {
+    match draw(alloc, 1, hairline, &[(0, 0), (1, 1)])? {
         Outline::Path(drawn) => assert!(rt; drawn.as_slice().is_empty()),
         Outline::Polygon(_) => panic!(rt; "a path is no polygon"),
     }
@@ -135,10 +143,19 @@ fn names_what_is_wrong_with_shapes(rt: HostRuntime) {
         ),
     ];
     for (kind, points, fault) in cases {
-        match draw(alloc, kind, points) {
+        match draw(alloc, 1, kind, points) {
             Ok(_) => panic!(rt; "not refused"),
             Err(found) => assert_eq!(rt; found, fault),
         }
+    }
+}
+
+#[test]
+fn refuses_a_square_off_the_grid(rt: HostRuntime) {
+    let square = [(0, 0), (10, 0), (10, 10), (0, 10), (0, 0)];
+    match draw(rt.alloc(), 3, ShapeKind::Boundary, &square) {
+        Ok(_) => panic!(rt; "not refused"),
+        Err(found) => assert_eq!(rt; found, PlaceFault::OffGrid { offset: 98 }),
     }
 }
 

@@ -1,32 +1,32 @@
 -- What is true of the library of every file without fault.
-use Rattle.std.proofs.Common.{◌≡◌, ◌≢◌, ℕ, suc, ◌+◌, ◌<◌, ◌≤◌, ◌/◌, ◌%◌, ◌==◌, ◌&&◌, ◌||◌, Bool, true, false, cond, not, refl, Option, Some, None, List, [], ◌∷◌, ◌++◌, length, map, get_or, ap, sym, ◌∙◌, subst, inl, inr, append_assoc, ◌⊎◌, arith}
+use Rattle.std.proofs.Common.{◌≡◌, ℕ, ◌+◌, ◌<◌, ◌≤◌, ◌/◌, ◌%◌, ◌==◌, ◌&&◌, ◌||◌, Bool, true, false, cond, not, refl, Option, Some, None, List, [], ◌∷◌, ◌++◌, length, map, get_or, ap, sym, ◌∙◌, subst, inl, inr, append_assoc, ◌⊎◌, arith}
 use Rattle.std.specs.Prelude.{All, MatchOption, nat_le, fold}
-use Rattle.std.specs.List.{Contains, flat_map, range_with_len}
+use Rattle.std.specs.List.{Contains, flat_map}
 use Rattle.std.specs.Option.{option_map, unwrap_or}
-use Rattle.std.proofs.lemmas.Bool.{cases_Bool, cases_eq, cases_lt, eq-eqb, eqb-true, eqb-false, or_parts, true≢false}
+use Rattle.std.proofs.lemmas.Bool.{cases_Bool, cases_eq, cases_lt, eq-eqb, eqb-true, or_parts}
 use Rattle.std.proofs.lemmas.Bool.Decides.{nat_tests}
-use Rattle.std.proofs.lemmas.List.{append-nil, length-append, length-map, map-append, get_or_default}
+use Rattle.std.proofs.lemmas.List.{append-nil, length-append, length-map, get_or_default}
 use Rattle.std.proofs.Math.ListN.{get_or-append}
 use Rattle.std.proofs.Math.Seq.{get_or-append_seam}
 use Rattle.std.proofs.lemmas.List.Concat.{flat_map-cons}
 use Rattle.std.proofs.lemmas.List.Elements.{All-cons, All-append}
 use Rattle.std.proofs.lemmas.List.FromFn.{length-map-range_with_len}
 use Rattle.std.proofs.lemmas.List.Sums.{sum_by-append, fold-append}
-use Rattle.std.proofs.lemmas.Grind.{flat_map-append, common_steps}
+use Rattle.std.proofs.lemmas.Grind.{flat_map-append}
 use Rattle.gds_records.specs.Points.{point_in}
 use Rattle.gds_records.specs.Records.{StreamRecord}
 use Rattle.gds_model.specs.declared.record_kind.RecordKind.{RecordKind}
-use Rattle.gds_model.specs.declared.record_kind.RecordKind.TheVariants.{Boundary, Path, Sref, Aref, Text, Node, Box, BgnStr, StrName, EndStr, StrClass, EndEl, Xy, ColRow, Header, BgnLib, LibName, Units, EndLib}
+use Rattle.gds_model.specs.declared.record_kind.RecordKind.TheVariants.{Boundary, Path, Sref, Aref, Box, BgnStr, StrName, EndStr, StrClass, EndEl, Xy, ColRow, Header, BgnLib, LibName, Units, EndLib}
 use Rattle.gds_model.specs.declared.elements.Element.{Element}
 use Rattle.gds_model.specs.declared.elements.Structure.{Structure}
 use Rattle.gds_model.specs.RecordKind.{code_of}
 use Rattle.gds_model.specs.Names.{name_of}
 use Rattle.gds_model.specs.Body.{fits, points, element_kinds, is_one_of}
 use Rattle.gds_model.specs.Grammar.{Grammar, never, empty, one, ◌⨾◌, ◌∣◌, optional, many, Content, Tree, records_of}
-use Rattle.gds_model.specs.StreamFile.{library_option, property, boundary, path, sref, aref, text, node, box, element, structure, library}
-use Rattle.gds_model.specs.Faults.{IsFine, AllFine, unexpected, one_too_many, bad_body, duplicate, structure_count, element_of, names_in, names_of}
+use Rattle.gds_model.specs.StreamFile.{library_option, property, boundary, path, sref, aref, box, element, structure, library}
+use Rattle.gds_model.specs.Faults.{IsFine, AllFine, one_too_many, bad_body, duplicate, structure_count, element_of, names_in, names_of}
 use Rattle.gds_model.specs.Elements.{body_of, bytes_of, points_in, grid_in, elements_in}
-use Rattle.gds_model.specs.Library.{HasItsPoints, names, HasDistinctNames, IsLayout, elements_of, structure_of, library_of}
+use Rattle.gds_model.specs.Library.{HasItsPoints, names, IsLayout, elements_of, structure_of, library_of}
 
 abbrev entry : RecordKind → Content → StreamRecord
 entry k t = record { offset = t.offset; code = code_of k; body = t.body }

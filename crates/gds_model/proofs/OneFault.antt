@@ -1,5 +1,5 @@
 -- A file has one fault at most, and none where nothing is wrong.
-use Rattle.std.proofs.Common.{◌≡◌, ℕ, refl, List, [], ◌∷◌, ◌++◌, inl, inr, ap, sym, ◌∙◌, subst, arith}
+use Rattle.std.proofs.Common.{◌≡◌, ℕ, refl, List, [], ◌∷◌, ◌++◌, inl, inr, ap, sym, ◌∙◌, arith}
 use Rattle.std.proofs.lemmas.Bool.{cases_lt, true≢false}
 use Rattle.gds_records.specs.Records.{StreamRecord, records_from, stop_after}
 use Rattle.gds_model.specs.declared.layout_fault.LayoutFault.{LayoutFault}

@@ -1,13 +1,16 @@
 -- The bound on the depth of the placed list is never hit.
-use Rattle.std.proofs.Common.{◌≡◌, ℕ, zero, suc, ◌<◌, List, [], ◌∷◌, ◌++◌, Option, Some, None, Bool, Contains, refl, ap, ap₂, sym, ◌∙◌, arith}
+use Rattle.std.proofs.Common.{◌≡◌, ℕ, zero, suc, ◌+◌, ◌<◌, ◌≤◌, inl, inr, List, [], ◌∷◌, ◌++◌, length, Option, Some, None, Bool, Contains, refl, ap, ap₂, sym, ◌∙◌, arith}
 use Rattle.std.specs.List.{flat_map}
+use Rattle.std.proofs.lemmas.Bool.{cases_lt}
 use Rattle.gds_model.specs.declared.elements.Element.{Element}
 use Rattle.gds_model.specs.declared.elements.Element.TheVariants.{Shape as shape, Reference as reference}
 use Rattle.gds_model.specs.declared.shape.Shape.{Shape}
 use Rattle.gds_model.specs.declared.elements.Structure.{Structure}
 use Rattle.gds_model.specs.declared.position.Position.{Position}
-use Rattle.gds_model.specs.Reach.{elements_at, number_of, References, Reaches}
-use Rattle.gds_model.specs.PlacedList.{Mapped, moved, copies_of, copy_maps, placed_by, placed_in}
+use Rattle.gds_model.specs.Reach.{elements_at, number_of, Chain, References, Reaches}
+use Rattle.gds_model.specs.PlacedList.{Mapped, moved, copies_of, copy_maps, placed_by, placed_in, placed_list}
+use Rattle.gds_model.specs.PlaceFaults.{HasNoCycle}
+use Rattle.gds_model.proofs.Chains.{chain_short, elements_past}
 
 -- each reference of a reached structure goes to one of a lower rank
 pub record FallsBy (library : List Structure) (top : ℕ) (rank : ℕ → ℕ) : Type 0 where
@@ -53,3 +56,32 @@ placed_in-same library chosen top rank falls (suc d) (suc e) s reached below bel
     let there : Reaches library top t = (suc reached.0, (s, reached.1, named)) in
     placed_in-same library chosen top rank falls d e t there (omega arith) (omega arith))
     ∙ sym (placed_in-next library chosen e s)
+
+-- ---- without a cycle nothing is left out
+
+-- where the chains end before either depth is used up
+same_after : (library : List Structure) (chosen : Shape → Bool) (top : ℕ) → HasNoCycle library top → top < length library →
+    (d e n s : ℕ) → Chain library top s n → length library ≤ d + n → length library ≤ e + n → placed_in library chosen d s ≡ placed_in library chosen e s
+same_after library chosen top acyclic inside zero e n s chain left left' =
+    let short : n < length library = chain_short library top n s acyclic inside chain in absurd (omega arith)
+same_after library chosen top acyclic inside (suc d) zero n s chain left left' =
+    let short : n < length library = chain_short library top n s acyclic inside chain in absurd (omega arith)
+same_after library chosen top acyclic inside (suc d) (suc e) n s chain left left' =
+    placed_in-next library chosen d s
+    ∙ elements_same library chosen s (placed_in library chosen d) (placed_in library chosen e) (λ t named.
+    same_after library chosen top acyclic inside d e (suc n) t (s, chain, named) (omega arith) (omega arith))
+    ∙ sym (placed_in-next library chosen e s)
+
+-- what is no structure places nothing
+placed_past : (library : List Structure) (chosen : Shape → Bool) (d s : ℕ) → length library ≤ s → placed_in library chosen d s ≡ []
+unfolding placed_in
+placed_past library chosen zero s past = refl
+placed_past library chosen (suc d) s past = ap (flat_map (placed_by library chosen (placed_in library chosen d))) (elements_past library s past)
+
+-- without a cycle a greater depth places no more
+pub placed_in-whole : (library : List Structure) (chosen : Shape → Bool) (top d : ℕ) → HasNoCycle library top → length library ≤ d →
+    placed_in library chosen d top ≡ placed_list library chosen top
+placed_in-whole library chosen top d acyclic deep = elim (cases_lt top (length library)) [
+  | inl inside ↦ same_after library chosen top acyclic inside d (length library) 0 top refl (omega arith) (omega arith)
+  | inr past ↦ placed_past library chosen d top past ∙ sym (placed_past library chosen (length library) top past)
+]

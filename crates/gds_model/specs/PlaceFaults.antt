@@ -1,5 +1,5 @@
 -- Why the chosen layer of a library can't be expanded, in five stages.
-use Rattle.std.specs.Prelude.{◌≡◌, ℕ, ◌-◌, ◌^◌, ◌<◌, ◌≤◌, ℤ, pos, ◌*ℤ◌, unsigned_abs, int_le, Bool, true, false, not, ◌&&◌, ◌||◌, nat_lt, Option, Some, None, is_some, is_none, MatchOption, IsSome, ◌⊎◌, List, [], ◌∷◌, map, Contains, if◌then◌else◌}
+use Rattle.std.specs.Prelude.{◌≡◌, ℕ, ◌-◌, ◌^◌, ◌<◌, ◌≤◌, ℤ, pos, ◌*ℤ◌, unsigned_abs, int_le, Bool, true, false, not, ◌&&◌, ◌||◌, nat_lt, Option, Some, None, is_some, is_none, MatchOption, IsSome, ◌⊎◌, List, [], ◌∷◌, length, map, Contains, if◌then◌else◌}
 use Prim.Native.Nat.{min}
 use Rattle.std.specs.List.{list_any}
 use Rattle.std.specs.Ordering.{int_eq}
@@ -20,7 +20,7 @@ use Rattle.gds_model.specs.declared.position.PathForm.{PathForm}
 use Rattle.gds_model.specs.declared.position.Position.{Position}
 use Rattle.gds_model.specs.Reach.{elements_at, number_of, Reaches, IsOnCycle}
 use Rattle.gds_model.specs.PathRects.{is_same_point, path_rects}
-use Rattle.gds_model.specs.PlacedList.{displacement, turns_of, is_on, Mapped, placed_list, total_points}
+use Rattle.gds_model.specs.PlacedList.{displacement, turns_of, is_on, Mapped, placed_in, placed_list, total_points}
 use Rattle.gds_model.specs.Outlines.{form_of, outline_of, placed_points}
 
 -- ---- references
@@ -192,3 +192,8 @@ IsPlacement library pick outlines = (top : ℕ) × (number_of library pick.top �
     × AreReferencesRight library top × HasNoCycle library top × (point_count library pick top ≤ 1048576)
     × (first_fault pick.grid (chosen_list library pick top) ≡ None)
     × (outlines ≡ map (outline_of pick.grid) (chosen_list library pick top))
+
+-- nothing is left out: these are the placed shapes at every depth that is at least the number of structures
+abbrev pub IsWhole : List Structure → Pick → List Outline → Type 0
+IsWhole library pick outlines = (top depth : ℕ) → number_of library pick.top ≡ Some top → length library ≤ depth
+    → outlines ≡ map (outline_of pick.grid) (placed_in library (is_on pick.layer pick.datatype) depth top)

@@ -1,5 +1,6 @@
 -- Which structures of a library the references reach.
-use Rattle.std.specs.Prelude.{◌≡◌, ◌==◌, ℕ, zero, suc, ◌&&◌, Bool, true, false, Option, Some, position, List, [], ◌∷◌, Contains}
+use Rattle.std.specs.Prelude.{◌≡◌, ℕ, zero, suc, Bool, Option, Some, position, List, [], ◌∷◌, Contains}
+use Rattle.std.specs.Str.{bytes_eq}
 use Rattle.gds_model.specs.declared.elements.Element.{Element}
 use Rattle.gds_model.specs.declared.elements.Element.TheVariants.{Reference as reference}
 use Rattle.gds_model.specs.declared.reference.Reference.{Reference}
@@ -7,10 +8,7 @@ use Rattle.gds_model.specs.declared.elements.Structure.{Structure}
 
 -- names are compared byte by byte
 abbrev pub is_same_name : List ℕ → List ℕ → Bool
-is_same_name [] [] = true
-is_same_name [] (b ∷ bs) = false
-is_same_name (a ∷ as') [] = false
-is_same_name (a ∷ as') (b ∷ bs) = a == b && is_same_name as' bs
+is_same_name = bytes_eq
 
 -- the number of the structure with this name
 abbrev pub number_of : List Structure → List ℕ → Option ℕ

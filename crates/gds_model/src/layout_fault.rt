@@ -1,3 +1,4 @@
+//! What is wrong with a layout file.
 use opc_base::NoMemory;
 use std::alloc::{AllocError, AllocFailed};
 use thiserror::Error;

@@ -1,3 +1,5 @@
+//! The kinds of records.
+
 /// The records of a stream file, by the manual's names.
 #[derive(Clone, Copy, Debug, PartialEq, Eq)]
 pub enum RecordKind {

@@ -1,3 +1,4 @@
+//! References, single and in arrays.
 use crate::Points;
 use opc_base::Name;
 

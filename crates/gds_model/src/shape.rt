@@ -1,3 +1,4 @@
+//! Shapes, as a file has them.
 use crate::Points;
 
 /// What a shape is. The four numbers of a path are those of its PATHTYPE, WIDTH, BGNEXTN and ENDEXTN records, each 0

@@ -1,5 +1,5 @@
 -- A stream file is a list of records: a length, a record type, a data type and a body.
-use Rattle.std.specs.Prelude.{◌≡◌, ◌≢◌, ℕ, zero, suc, ◌+◌, ◌*◌, ◌%◌, ◌<◌, ◌≤◌, ◌⊎◌, Bool, ◌==◌, ◌&&◌, nat_le, if◌then◌else◌, Option, Some, None, List, [], ◌∷◌, length, slice_index, slice_range}
+use Rattle.std.specs.Prelude.{◌≡◌, ◌≢◌, ℕ, zero, suc, ◌+◌, ◌*◌, ◌%◌, ◌<◌, ◌≤◌, ◌⊎◌, Bool, ◌==◌, ◌&&◌, nat_le, if◌then◌else◌, Option, Some, None, List, [], ◌∷◌, ◌++◌, length, slice_index, slice_range}
 use Rattle.gds_records.specs.Numbers.{two_bytes}
 
 -- a record as it stands in the file; the code is the record type and the data type
@@ -89,3 +89,8 @@ abbrev pub Stand : List ℕ → ℕ → List StreamRecord → Type 0
 Stand bytes at [] = Unit {0}
 Stand bytes at (r ∷ []) = StandsAt bytes at r
 Stand bytes at (r ∷ s ∷ rs) = StandsAt bytes at r × (r.code ≢ ENDLIB) × Stand bytes (end_of r) (s ∷ rs)
+
+-- these records stand so, and each list of records that does is the front of them
+abbrev pub AreLongest : List ℕ → ℕ → List StreamRecord → Type 0
+AreLongest bytes at longest = Stand bytes at longest
+    × ((rs : List StreamRecord) → Stand bytes at rs → (more : List StreamRecord) × (rs ++ more ≡ longest))

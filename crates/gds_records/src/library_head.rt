@@ -1,3 +1,4 @@
+//! The head of a library.
 use opc_base::Bytes;
 
 /// The bodies of a library's HEADER, BGNLIB, LIBNAME and UNITS records, as they stand in the file.

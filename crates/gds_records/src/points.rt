@@ -1,3 +1,4 @@
+//! The points of XY records.
 ghost use Rattle.std.specs.Prelude.{◌≡◌, ◌≤◌, ◌+◌, ◌*◌, length};
 ghost use Rattle.gds_records.specs.Points.{point_in};
 

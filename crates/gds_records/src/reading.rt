@@ -1,3 +1,4 @@
+//! What stands at an offset of a stream file.
 ghost use Rattle.std.specs.Prelude.{◌≤◌, length};
 ghost use Rattle.gds_records.specs.NextRecord.{IsNext};
 

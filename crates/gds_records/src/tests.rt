@@ -1,3 +1,4 @@
+//! Records and points, read and written.
 use crate::{Next, Point, next_record, point_at, put_record};
 use opc_base::Bytes;
 use std::process::Abort;

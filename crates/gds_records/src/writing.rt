@@ -1,3 +1,4 @@
+//! Records, as they are written.
 ghost use Rattle.std.specs.Prelude.{◌≡◌, ◌≤◌, ◌+◌, ◌*◌, ◌%◌, ◌++◌, length, OnOk, OnErr};
 ghost use Rattle.gds_records.specs.Records.{StandsAt};
 ghost use Rattle.gds_records.specs.Written.{record_bytes};
@@ -24,7 +25,7 @@ pub fn put_record(
 {
     let mut header = [0, 0, kind, data_type];
     BigEndian::write_u16(&mut header, (body.len() + 4) as u16);
-    let mut written = Vec::new(alloc);
+    let mut written = Vec::with_capacity(alloc, body.len() + 4)?;
     written.extend_from_slice(&header)?;
     written.extend_from_slice(body)?;
     out.append(written.as_slice())

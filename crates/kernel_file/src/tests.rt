@@ -1,7 +1,11 @@
 //! Kernel files by hand: what is read, and which fault comes first.
+use super::KernelFault::{
+    BadCount, BadEntry, BadMagic, BadReach, BadTransmission, BadWeight, WeightSum, WrongLength,
+};
 use super::{KernelFault, read_kernels};
 use opc_base::Entry;
 use std::alloc::{AllocError, Global};
+use std::process::Abort;
 use std::test::Fail;
 
 /// A place outside of the files here.
@@ -90,117 +94,68 @@ fn reads_each_number_at_its_place(rt: HostRuntime) -> Result<(), Fail> {
     Ok(())
 }
 
-/// Two kernels of reach 1. In the first format the file has 84 bytes and the kernels stand at 8 and at 46, in the second
-/// format it has 92 bytes and they stand at 16 and at 54.
+/// Two changes of a file, and what reading it gives then.
+type Case = ((usize, u16), (usize, u16), Result<usize, KernelFault>);
+
+/// In the first format the file has 84 bytes, and the kernels stand at 8 and at 46.
+fn cases_of_first_format() -> [Case; 19] {
+    [
+        (NOWHERE, NOWHERE, Ok(2)),
+        ((0, 0x4f51), (4, 0), Err(BadMagic)),
+        ((2, 0x4b33), NOWHERE, Err(BadMagic)),
+        ((2, 0x4b32), NOWHERE, Err(WrongLength)),
+        ((4, 0), (6, 65), Err(BadCount)),
+        ((4, 17), NOWHERE, Err(BadCount)),
+        ((4, 16), NOWHERE, Err(WrongLength)),
+        ((6, 65), (8, 0), Err(BadReach)),
+        ((6, 64), NOWHERE, Err(WrongLength)),
+        ((4, 1), (8, 0), Err(WrongLength)),
+        ((8, 0), (46, 0), Err(BadWeight { kernel: 0 })),
+        ((46, 0), (82, 2049), Err(BadWeight { kernel: 1 })),
+        ((44, 2049), (46, 0), Err(BadEntry { offset: 44 })),
+        ((10, 2049), (12, 2049), Err(BadEntry { offset: 10 })),
+        ((12, 0xf7ff), (14, 2049), Err(BadEntry { offset: 12 })),
+        ((8, 1025), (82, 2049), Err(BadEntry { offset: 82 })),
+        ((8, 1025), (82, 2048), Err(WeightSum)),
+        ((8, 65535), (46, 65535), Err(WeightSum)),
+        ((10, 2048), (82, 0xf800), Ok(2)),
+    ]
+}
+
+/// In the second format it has 92 bytes, and the kernels stand at 16 and at 54.
+fn cases_of_second_format() -> [Case; 12] {
+    [
+        (NOWHERE, NOWHERE, Ok(2)),
+        ((2, 0x4b31), NOWHERE, Err(WrongLength)),
+        ((4, 1), (8, 9), Err(WrongLength)),
+        ((8, 9), (14, 9), Err(BadTransmission { offset: 8 })),
+        ((10, 0xfff7), (16, 0), Err(BadTransmission { offset: 10 })),
+        ((12, 9), (18, 129), Err(BadTransmission { offset: 12 })),
+        ((14, 0x8000), NOWHERE, Err(BadTransmission { offset: 14 })),
+        ((18, 129), (54, 0), Err(BadEntry { offset: 18 })),
+        ((54, 0), (90, 0xff7f), Err(BadWeight { kernel: 1 })),
+        ((16, 2048), (90, 0xff7f), Err(BadEntry { offset: 90 })),
+        ((16, 2048), (90, 0xff80), Err(WeightSum)),
+        ((8, 8), (14, 0xfff8), Ok(2)),
+    ]
+}
+
+fn judge(rt: &impl Abort, alloc: Global, file: &[u8], cases: &[Case]) -> Result<(), AllocError> {
+    for (first, second, wanted) in cases {
+        let found = outcome_of(alloc, file, *first, *second)?;
+        assert_eq!(rt; found, *wanted, "{first:?} {second:?}");
+    }
+    Ok(())
+}
+
+/// Two kernels of reach 1.
 #[test]
 fn refuses_the_first_fault(rt: HostRuntime) -> Result<(), Fail> {
-    let old = file_of(rt.alloc(), b"OPK1", &[2, 1], (2, 1024), (18, 1))?;
-    let new = file_of(rt.alloc(), b"OPK2", &[2, 1, 2, 0, 0, 1], (2, 1024), (18, 1))?;
-    for (is_new, first, second, wanted) in [
-        (false, NOWHERE, NOWHERE, Ok(2)),
-        (false, (0, 0x4f51), (4, 0), Err(KernelFault::BadMagic)),
-        (false, (2, 0x4b33), NOWHERE, Err(KernelFault::BadMagic)),
-        (false, (2, 0x4b32), NOWHERE, Err(KernelFault::WrongLength)),
-        (false, (4, 0), (6, 65), Err(KernelFault::BadCount)),
-        (false, (4, 17), NOWHERE, Err(KernelFault::BadCount)),
-        (false, (4, 16), NOWHERE, Err(KernelFault::WrongLength)),
-        (false, (6, 65), (8, 0), Err(KernelFault::BadReach)),
-        (false, (6, 64), NOWHERE, Err(KernelFault::WrongLength)),
-        (false, (4, 1), (8, 0), Err(KernelFault::WrongLength)),
-        (
-            false,
-            (8, 0),
-            (46, 0),
-            Err(KernelFault::BadWeight { kernel: 0 }),
-        ),
-        (
-            false,
-            (46, 0),
-            (82, 2049),
-            Err(KernelFault::BadWeight { kernel: 1 }),
-        ),
-        (
-            false,
-            (44, 2049),
-            (46, 0),
-            Err(KernelFault::BadEntry { offset: 44 }),
-        ),
-        (
-            false,
-            (10, 2049),
-            (12, 2049),
-            Err(KernelFault::BadEntry { offset: 10 }),
-        ),
-        (
-            false,
-            (12, 0xf7ff),
-            (14, 2049),
-            Err(KernelFault::BadEntry { offset: 12 }),
-        ),
-        (
-            false,
-            (8, 1025),
-            (82, 2049),
-            Err(KernelFault::BadEntry { offset: 82 }),
-        ),
-        (false, (8, 1025), (82, 2048), Err(KernelFault::WeightSum)),
-        (false, (8, 65535), (46, 65535), Err(KernelFault::WeightSum)),
-        (false, (10, 2048), (82, 0xf800), Ok(2)),
-        (true, NOWHERE, NOWHERE, Ok(2)),
-        (true, (2, 0x4b31), NOWHERE, Err(KernelFault::WrongLength)),
-        (true, (4, 1), (8, 9), Err(KernelFault::WrongLength)),
-        (
-            true,
-            (8, 9),
-            (14, 9),
-            Err(KernelFault::BadTransmission { offset: 8 }),
-        ),
-        (
-            true,
-            (10, 0xfff7),
-            (16, 0),
-            Err(KernelFault::BadTransmission { offset: 10 }),
-        ),
-        (
-            true,
-            (12, 9),
-            (18, 129),
-            Err(KernelFault::BadTransmission { offset: 12 }),
-        ),
-        (
-            true,
-            (14, 0x8000),
-            NOWHERE,
-            Err(KernelFault::BadTransmission { offset: 14 }),
-        ),
-        (
-            true,
-            (18, 129),
-            (54, 0),
-            Err(KernelFault::BadEntry { offset: 18 }),
-        ),
-        (
-            true,
-            (54, 0),
-            (90, 0xff7f),
-            Err(KernelFault::BadWeight { kernel: 1 }),
-        ),
-        (
-            true,
-            (16, 2048),
-            (90, 0xff7f),
-            Err(KernelFault::BadEntry { offset: 90 }),
-        ),
-        (true, (16, 2048), (90, 0xff80), Err(KernelFault::WeightSum)),
-        (true, (8, 8), (14, 0xfff8), Ok(2)),
-    ] {
-        let file = if is_new { &new } else { &old };
-        assert_eq!(rt;
-            outcome_of(rt.alloc(), file, first, second)?,
-            wanted,
-            "{is_new} {first:?} {second:?}"
-        );
-    }
+    let alloc = rt.alloc();
+    let file = file_of(alloc, b"OPK1", &[2, 1], (2, 1024), (18, 1))?;
+    judge(&rt, alloc, &file, &cases_of_first_format())?;
+    let file = file_of(alloc, b"OPK2", &[2, 1, 2, 0, 0, 1], (2, 1024), (18, 1))?;
+    judge(&rt, alloc, &file, &cases_of_second_format())?;
     Ok(())
 }
 

@@ -1,4 +1,2 @@
 pub mod Stages
-pub mod PlaceLaws
-pub mod Offsets
 pub mod ProbeLaws

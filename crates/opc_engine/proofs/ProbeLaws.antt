@@ -20,8 +20,8 @@ use Rattle.opc_engine.specs.declared.fault.EngineFault.TheVariants.{Layout, Plac
 use Rattle.opc_engine.specs.declared.limits.TheConstants.{MAX_LAYOUT, MAX_KERNELS}
 use Rattle.opc_engine.specs.LayoutTarget.{IsUnread, IsRead, OutlinesGive, StructuresGive, LayoutGives}
 use Rattle.opc_engine.specs.Probe.{kernel_result, IsPickOf, GivesFor, intensity_over, ProbeOver, ProbeGives, IsProbeAnswer, IsProbeRefusal}
-use Rattle.opc_engine.proofs.PlaceLaws.{HasDistinctOffsets, one_place_fault, no_place_fault, one_placement}
-use Rattle.opc_engine.proofs.Offsets.{distinct_offsets}
+use Rattle.gds_model.proofs.PlaceLaws.{HasDistinctOffsets, one_place_fault, no_place_fault, one_placement}
+use Rattle.gds_model.proofs.Offsets.{distinct_offsets}
 
 -- ---- one pick
 

@@ -8,7 +8,7 @@ use Rattle.gds_expand.specs.declared.walk.Step.TheVariants.{Copy}
 use Rattle.gds_expand.specs.Rows.{AddsElement}
 use Rattle.gds_expand.specs.Steps.{steps_of}
 use Rattle.gds_expand.proofs.BaseLemmas.{on_ok}
-use Rattle.gds_expand.proofs.GraphLemmas.{number_below}
+use Rattle.gds_model.proofs.Chains.{number_below}
 use Rattle.gds_expand.proofs.RowMeanings.{element_by_reference, right_own}
 use Rattle.gds_expand.proofs.WalkLemmas.{steps_of-row}
 use Rattle.gds_expand.proofs.rows.push_named.Goals as goal

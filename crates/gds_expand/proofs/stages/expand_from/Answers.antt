@@ -3,7 +3,8 @@ use Rattle.gds_model.specs.PlacedList.{is_on}
 use Rattle.gds_model.specs.PlaceFaults.{point_count}
 use Rattle.gds_expand.specs.Points.{Plan, points_in, targets_of}
 use Rattle.gds_expand.specs.Steps.{mapped}
-use Rattle.gds_expand.proofs.GraphLemmas.{closed_graph, number_below, order_of_plan}
+use Rattle.gds_model.proofs.Chains.{number_below}
+use Rattle.gds_expand.proofs.GraphLemmas.{closed_graph, order_of_plan}
 use Rattle.gds_expand.proofs.StageLemmas.{cycle_stage, judged, made_graph, no_stage, plan_sized, point_stage, points_are_placed, shape_stage}
 use Rattle.std.proofs.lemmas.Result.{err_from_is_err_and}
 use Rattle.gds_expand.proofs.stages.expand_from.Goals as goal

@@ -1,4 +1,5 @@
 use Rattle.std.proofs.lemmas.Result.{err_from_is_err_and}
+use Rattle.gds_records.proofs.Longest.{records_are_longest}
 use Rattle.opc_engine.proofs.Stages.{unread}
 use Rattle.opc_engine.proofs.layout.read_layout.Goals as goal
 
@@ -6,3 +7,6 @@ pub returns-in_err-read_library-clause-refusal : goal.returns-in_err-read_librar
 returns-in_err-read_library-clause-refusal c =
     let p = err_from_is_err_and c.from_residual.result c.from_residual.ensures.1 in
     rw (p.1, p.2) (unread c.args.layout.now _ c.if-layout-gt-MAX_LAYOUT.false c.in_err-read_library.ensures.fault)
+
+pub returns-clause-records : goal.returns-clause-records
+returns-clause-records c = records_are_longest c.args.layout.now 0

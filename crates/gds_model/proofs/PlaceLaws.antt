@@ -1,4 +1,4 @@
--- A library's placement has one fault at most, and none where there is a placement.
+-- A library's placement has one fault at most, and none where there is a placement; a placement leaves nothing out.
 use Rattle.std.proofs.Common.{◌≡◌, ℕ, ◌≤◌, List, Option, Some, None, sym, ap, ◌∙◌, subst, inl, inr, arith}
 use Rattle.std.proofs.lemmas.Bool.{cases_lt}
 use Rattle.std.specs.Prelude.{MatchOption, is_some, map}
@@ -10,7 +10,9 @@ use Rattle.gds_model.specs.declared.place_fault.PlaceFault.{PlaceFault}
 use Rattle.gds_model.specs.declared.place_fault.PlaceFault.TheVariants.{NoTop, Cycle}
 use Rattle.gds_model.specs.Reach.{number_of}
 use Rattle.gds_model.specs.Outlines.{outline_of}
-use Rattle.gds_model.specs.PlaceFaults.{reference_fault, IsReached, IsReferenceFault, AreReferencesRight, IsCycleFault, HasNoCycle, point_count, first_fault, chosen_list, IsFaultFrom, IsPlaceFault, IsPlacement}
+use Rattle.gds_model.specs.PlaceFaults.{reference_fault, IsReached, IsReferenceFault, AreReferencesRight, IsCycleFault, HasNoCycle, point_count, first_fault, chosen_list, IsFaultFrom, IsPlaceFault, IsPlacement, IsWhole}
+use Rattle.gds_model.specs.PlacedList.{Mapped, is_on, placed_in}
+use Rattle.gds_model.proofs.PlacedListLaws.{placed_in-whole}
 
 -- no two references of the library have one offset
 abbrev pub HasDistinctOffsets : List Structure → Type 0
@@ -91,3 +93,10 @@ module _ (library : List Structure) (distinct : HasDistinctOffsets library) (pic
   one_placement o p (top, is, right, acyclic, few, fine, same) (top', is', right', acyclic', few', fine', same') =
       let one : top ≡ top' = let found : Some top ≡ Some top' = sym is ∙ is' in cc in
       same ∙ ap (λ n. map (outline_of pick.grid) (chosen_list library pick n)) one ∙ sym same'
+
+-- a placement leaves nothing out
+pub placement_whole : (library : List Structure) (pick : Pick) (outlines : List Outline) → IsPlacement library pick outlines → IsWhole library pick outlines
+placement_whole library pick outlines (top, is, right, acyclic, few, fine, made) other depth is' deep =
+    let one : top ≡ other = let found : Some top ≡ Some other = sym is ∙ is' in cc in
+    let all : List Structure → ℕ → List Mapped = λ structures s. placed_in structures (is_on pick.layer pick.datatype) depth s in
+    made ∙ ap (map (outline_of pick.grid)) (sym (placed_in-whole library (is_on pick.layer pick.datatype) top depth acyclic deep) ∙ ap (all library) one)

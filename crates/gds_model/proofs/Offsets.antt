@@ -18,7 +18,7 @@ use Rattle.gds_model.specs.StreamFile as file
 use Rattle.gds_model.specs.Elements.{elements_in, shape_of, path_kind, reference_of}
 use Rattle.gds_model.specs.Library.{StreamLibrary, IsLibraryOf, elements_of, structure_of, library_of}
 use Rattle.gds_model.specs.Reach.{elements_at}
-use Rattle.opc_engine.proofs.PlaceLaws.{HasDistinctOffsets}
+use Rattle.gds_model.proofs.PlaceLaws.{HasDistinctOffsets}
 
 -- ---- ascending numbers
 
