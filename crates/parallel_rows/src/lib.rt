@@ -7,8 +7,12 @@
 #[cfg(test)]
 mod part_tests;
 #[cfg(test)]
+mod plain_sums;
+#[cfg(test)]
 mod plain_tests;
 pub mod scene;
 pub mod sums;
+#[cfg(test)]
+mod targets;
 #[cfg(test)]
 mod tile_tests;
