@@ -1,7 +1,8 @@
 //! Tests of tiles and of the parallel phase, on targets that are cut by the crates below.
 //!
-//! `scene` makes fragments, tables and tiles of some rectangles, and `sums` adds swept rectangles to sums of 0. The other
-//! modules have the tests, with numbers that were worked out by hand.
+//! `scene` makes fragments, tables and tiles of some rectangles, and `sums` adds swept rectangles to sums of 0. `targets`
+//! has what several tests cut, and `plain_sums` what the plain pixel sum gives. The other modules have the tests, with
+//! numbers that were worked out by hand.
 #![tactic(auto)]
 
 #[cfg(test)]
