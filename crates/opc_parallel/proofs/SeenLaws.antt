@@ -1,48 +1,56 @@
 -- What a kernel sees from a pixel.
-use Rattle.std.proofs.Common.{◌≡◌, ℕ, ◌≤◌, ℤ, pos, neg_ℤ, ◌+ℤ◌, ◌-ℤ◌, ◌*ℤ◌, ◌≤ℤ◌, ◌<ℤ◌, int_le, int_lt, unsigned_abs, Bool, ◌&&◌, IsTrue, IsFalse, false, to_z, of_z, w32, ap, ◌∙◌, arith}
+use Rattle.std.proofs.Common.{◌≡◌, ℕ, ◌+◌, ◌≤◌, ℤ, pos, negsuc, ◌+ℤ◌, ◌-ℤ◌, ◌*ℤ◌, ◌≤ℤ◌, ◌<ℤ◌, unsigned_abs, false, to_z, of_z, w32, ap, ◌∙◌, arith}
 use Rattle.std.proofs.lemmas.Int.{ints}
 use Rattle.std.proofs.Math.IntN.{*ℤ-zero}
-use Rattle.opc_base.specs.Lanes.{lane_entry, rect_change}
-use Rattle.opc_base.specs.Plane.{rect_cover}
+use Rattle.opc_base.specs.Lanes.{rect_change}
 use Rattle.opc_base.specs.declared.kernels.KernelSet.{KernelSet}
 use Rattle.opc_base.specs.declared.plane.Pix.{Pix}
 use Rattle.opc_base.specs.declared.plane.Rect.{Rect}
-use Rattle.opc_base.proofs.ClampLaws.{seen_sum-far}
-use Rattle.tiles.specs.Meets.{meet}
-use Rattle.tiles.proofs.MeetLaws.{meet-shared}
+use Rattle.outline_model.specs.declared.fragment.Fragment.{Fragment}
+use Rattle.outline_model.specs.Outline.{site_of}
+use Rattle.tiles.specs.Meets.{AddsNothing, meet}
+use Rattle.tiles.proofs.MeetLaws.{IsNearBy, SeesWithin, site_near, unmet}
 use Rattle.opc_parallel.specs.Conditions.{window_of}
 
-both : (a b x : ℤ) → a ≤ℤ x → x <ℤ b → IsTrue (int_le a x && int_lt x b)
-both a b x first second = grind (arith, ints)
+-- one coordinate of what is seen from a place lies in the window of a place near by
+in_window : (p q : ℤ) (reach n : ℕ) → unsigned_abs (p -ℤ q) ≤ n →
+    ((q -ℤ pos (reach + n)) ≤ℤ (p -ℤ pos reach)) × ((p +ℤ pos reach) <ℤ (q +ℤ pos (reach + n) +ℤ pos 1))
+in_window p q reach n near = (omega (arith, ints), omega (arith, ints))
 
-four : (a b c d : Bool) → IsTrue (a && b) → IsTrue (c && d) → IsTrue (a && b && c && d)
-four a b c d first second = grind arith
-
-not_in : (b c : Bool) → (IsTrue b → IsTrue c) → c ≡ false → IsFalse b
-not_in b c leads away = grind arith
-
-near : (p u reach : ℤ) → neg_ℤ reach ≤ℤ u → u ≤ℤ reach → IsTrue (int_le (p -ℤ reach) (p -ℤ u) && int_lt (p -ℤ u) (p +ℤ reach +ℤ pos 1))
-near p u reach least most = both (p -ℤ reach) (p +ℤ reach +ℤ pos 1) (p -ℤ u) (omega (arith, ints)) (omega (arith, ints))
+sees_within : (reach n : ℕ) (p q : Pix) → IsNearBy n p q → SeesWithin reach p (window_of (pos (reach + n)) q)
+sees_within reach n p q near =
+    let across = in_window p.x q.x reach n near.0 in
+    let along = in_window p.y q.y reach n near.1 in
+    record { left = across.0; right = across.1; below = along.0; above = along.1 }
 
 -- a rectangle that no kernel sees from a pixel adds nothing there
 pub unseen : (set : KernelSet) (at : Pix) (rect : Rect) (sign : ℤ) (lane : ℕ) → meet (window_of (pos set.reach) at) rect ≡ false → rect_change set rect sign at.x at.y lane ≡ pos 0
 unseen set at rect sign lane away =
-    ap (λ z. sign *ℤ z) (seen_sum-far set.reach (lane_entry set lane) (rect_cover rect) at.x at.y
-    (λ u v low_u high_u low_v high_v. not_in (rect_cover rect (at.x -ℤ u) (at.y -ℤ v)) (meet window rect)
-    (λ covered. meet-shared window rect (at.x -ℤ u) (at.y -ℤ v)
-    (four (int_le window.x0 (at.x -ℤ u)) (int_lt (at.x -ℤ u) window.x1) (int_le window.y0 (at.y -ℤ v)) (int_lt (at.y -ℤ v) window.y1)
-    (near at.x u (pos set.reach) low_u high_u) (near at.y v (pos set.reach) low_v high_v)) covered) away))
-    ∙ *ℤ-zero sign
+    ap (λ z. sign *ℤ z) (unmet set at (window_of (pos set.reach) at) rect lane window away) ∙ *ℤ-zero sign
   where
-    window : Rect
-    window = window_of (pos set.reach) at
+    low : (p : ℤ) (reach : ℕ) → (p -ℤ pos reach) ≤ℤ (p -ℤ pos reach)
+    low p reach = omega (arith, ints)
+
+    high : (p : ℤ) (reach : ℕ) → (p +ℤ pos reach) <ℤ (p +ℤ pos reach +ℤ pos 1)
+    high p reach = omega (arith, ints)
+
+    window : SeesWithin set.reach at (window_of (pos set.reach) at)
+    window = record { left = low at.x set.reach; right = high at.x set.reach; below = low at.y set.reach; above = high at.y set.reach }
+
+-- and one that none of them sees from any sample of a fragment adds nothing there
+pub unseen_fragment : (set : KernelSet) (n : ℕ) (f : Fragment) (rect : Rect) → meet (window_of (pos (set.reach + n)) (site_of f (negsuc 0))) rect ≡ false → AddsNothing set n f rect
+unseen_fragment set n f rect away k lane below =
+    unmet set here (window_of (pos (set.reach + n)) (site_of f (negsuc 0))) rect lane (sees_within set.reach n here (site_of f (negsuc 0)) (site_near f k n below)) away
+  where
+    here : Pix
+    here = site_of f (pos k -ℤ pos n)
 
 -- the sides of the window as the code computes them
-pub low_is : (p reach : ℤ) → unsigned_abs p ≤ 1048100 → pos 0 ≤ℤ reach → reach ≤ℤ pos 64 →
+pub low_is : (p reach : ℤ) → unsigned_abs p ≤ 1048100 → pos 0 ≤ℤ reach → reach ≤ℤ pos 80 →
     to_z w32 (of_z w32 (to_z w32 (of_z w32 p) -ℤ to_z w32 (of_z w32 reach))) ≡ p -ℤ reach
 low_is p reach small least most = omega (arith, ints)
 
-pub high_is : (p reach : ℤ) → unsigned_abs p ≤ 1048100 → pos 0 ≤ℤ reach → reach ≤ℤ pos 64 →
+pub high_is : (p reach : ℤ) → unsigned_abs p ≤ 1048100 → pos 0 ≤ℤ reach → reach ≤ℤ pos 80 →
     to_z w32 (of_z w32 (to_z w32 (of_z w32 (to_z w32 (of_z w32 p) +ℤ to_z w32 (of_z w32 reach))) +ℤ pos 1)) ≡ p +ℤ reach +ℤ pos 1
 high_is p reach small least most =
     let inner : to_z w32 (of_z w32 (to_z w32 (of_z w32 p) +ℤ to_z w32 (of_z w32 reach))) ≡ p +ℤ reach = omega (arith, ints) in

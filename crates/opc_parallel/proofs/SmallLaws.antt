@@ -1,11 +1,11 @@
 -- Numbers that stay small while a short list of rectangles is added.
-use Rattle.std.proofs.Common.{◌≡◌, ℕ, suc, ◌+◌, ◌*◌, ◌^◌, ◌<◌, ◌≤◌, ℤ, pos, neg_ℤ, ◌+ℤ◌, ◌-ℤ◌, ◌*ℤ◌, unsigned_abs, Bool, if◌then◌else◌, List, [], ◌∷◌, All, length, get_or, replicate, take, arith, mul-le-mul, mul_assoc, ⊎_elim}
+use Rattle.std.proofs.Common.{◌≡◌, ℕ, suc, ◌+◌, ◌*◌, ◌^◌, ◌≤◌, ℤ, pos, neg_ℤ, ◌+ℤ◌, ◌-ℤ◌, unsigned_abs, Bool, if◌then◌else◌, List, [], ◌∷◌, All, length, get_or, replicate, take, arith, mul-le-mul, mul_assoc, ⊎_elim}
 use Rattle.std.proofs.Math.ListN.{get_or-eq_default}
 use Rattle.std.proofs.lemmas.Bool.{cases_lt}
 use Rattle.std.proofs.lemmas.Int.{ints, unsigned_abs-mul}
 use Rattle.std.proofs.lemmas.List.{get_or-replicate, length-replicate, length-take}
 use Rattle.std.proofs.lemmas.List.Elements.{All-take}
-use Rattle.opc_base.specs.Lanes.{lane_count, lane_entry, part_of_lane}
+use Rattle.opc_base.specs.Lanes.{lane_entry, part_of_lane}
 use Rattle.opc_base.specs.Optics.{KeepsBounds}
 use Rattle.opc_base.specs.Plane.{PixelSet, rect_cover}
 use Rattle.opc_base.specs.Sums.{sum_each}

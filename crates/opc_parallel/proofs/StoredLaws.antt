@@ -88,16 +88,25 @@ sample_change-none : (s : Setting) (swept : Swept) (i k lane : ℕ) → AddsNoth
 unfolding sample_change
 sample_change-none s swept i k lane nothing below = ap (λ z. swept.sign *ℤ z) (nothing k lane below) ∙ *ℤ-zero swept.sign
 
+-- nor does it to any number of the fragment
+pub fragment_untouched : (s : Setting) (swept : Swept) (i n : ℕ) → IsReady s → n < stride_of s → AddsNothing s.set s.samples (fragment_at s.fragments i) swept.rect →
+    sample_change s swept i (n / lane_count s.set) (n % lane_count s.set) ≡ pos 0
+fragment_untouched s swept i n ready below nothing =
+    sample_change-none s swept i (n / lane_count s.set) (n % lane_count s.set) nothing
+    (twice s.samples (div_below n (lane_count s.set) (2 * s.samples) (lanes_some s.set ready.bounds) below))
+  where
+    twice : (n : ℕ) {k : ℕ} → k < 2 * n → k < n + n
+    twice n below = omega arith
+
 -- a rectangle that doesn't reach a tile adds nothing to its numbers
 pub untouched : (s : Setting) (swept : Swept) (tile j len : ℕ) → IsReady s → tile < tile_count s.tiling →
     start_at s tile + len ≡ start_at s (tile + 1) → j < len → meet_tile s.tiling swept.rect tile ≡ false → change_at s swept (start_at s tile + j) ≡ pos 0
 untouched s swept tile j len ready in_tiles size below away =
     change_at-place s swept q (j % stride) (start_at s tile + j) ready.bounds place (mod_below j stride some)
     ∙ ap (λ i. sample_change s swept i ((j % stride) / lane_count s.set) ((j % stride) % lane_count s.set)) (number-in_tile s.tiling tile (j / stride) 0 in_tiles within)
-    ∙ sample_change-none s swept (get_or (fragments_of s.tiling tile) (j / stride) 0) ((j % stride) / lane_count s.set) ((j % stride) % lane_count s.set)
+    ∙ fragment_untouched s swept (get_or (fragments_of s.tiling tile) (j / stride) 0) (j % stride) ready (mod_below j stride some)
     (far s.set s.samples (fragment_at s.fragments (get_or (fragments_of s.tiling tile) (j / stride) 0)) (tile_at s.tiling tile) s.tiling.side s.tiling.halo swept.rect
     (omega (arith, ints, ready.halo_is)) (ready.tiling_is.in_tile tile (get_or (fragments_of s.tiling tile) (j / stride) 0) in_tiles (Contains-get_or (fragments_of s.tiling tile) (j / stride) 0 within)) away)
-    (twice s.samples (div_below (j % stride) (lane_count s.set) (2 * s.samples) (lanes_some s.set ready.bounds) (mod_below j stride some)))
   where
     stride : ℕ
     stride = stride_of s
@@ -116,9 +125,6 @@ untouched s swept tile j len ready in_tiles size below away =
 
     within : j / stride_of s < length (fragments_of s.tiling tile)
     within = div_below j (stride_of s) (length (fragments_of s.tiling tile)) some (omega (arith, below, len_is))
-
-    twice : (n : ℕ) {k : ℕ} → k < 2 * n → k < n + n
-    twice n below = omega arith
 
 pub start_at-ascend : (s : Setting) (i j : ℕ) → i ≤ j → j ≤ tile_count s.tiling → start_at s i ≤ start_at s j
 start_at-ascend s i j le within = mul-le (stride_of s) (first_of s.tiling i) (stride_of s) (first_of s.tiling j) (omega arith) (first_of-ascend s.tiling i j le within)

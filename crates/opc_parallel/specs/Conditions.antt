@@ -28,6 +28,6 @@ pub record IsReady (s : Setting) : Type 0 where
 abbrev pub setting_of : Work → Setting
 setting_of work = record { set = work.tables.now; fragments = work.fragments.now; tiling = work.index.now; samples = work.samples }
 
--- the pixels that a kernel of this reach sees from a pixel
+-- the pixels no further than this from a pixel in x and in y: those that a kernel of this reach sees
 abbrev pub window_of : ℤ → Pix → Rect
 window_of reach at = record { x0 = at.x -ℤ reach; y0 = at.y -ℤ reach; x1 = at.x +ℤ reach +ℤ pos 1; y1 = at.y +ℤ reach +ℤ pos 1 }

@@ -25,8 +25,28 @@ pub fn stride(work: &Work) -> usize
     2 * work.samples as usize * work.tables.lanes()
 }
 
+/// Adds a rectangle to a fragment if some sample of it may see it. To any other fragment it adds nothing.
+pub fn add_if_near<L: Ledger>(
+    work: &Work,
+    swept: Swept,
+    number: u32,
+    sums: &mut [i64],
+    steps: &mut Steps<L>,
+)
+    requires ready { IsReady (setting_of work.now) }
+    requires swept { IsSweepable swept }
+    requires number { number < length work.now.fragments.now }
+    requires sums { AreLanes (stride_of (setting_of work.now)) (2 ^ 62) sums.old }
+    ensures { RisesBy (λ n. sample_change (setting_of work.now) swept number (n / lane_count work.now.tables.now) (n % lane_count work.now.tables.now)) 0 sums.old sums.new }
+{
+    let at = work.fragments.site(number, -1);
+    if sees(work.tables.reach() + work.samples as i32, at, &swept.rect) {
+        add_to_fragment(work, swept, number, sums, steps);
+    }
+}
+
 /// Adds a rectangle to all samples of a fragment.
-pub fn add_to_fragment<L: Ledger>(
+fn add_to_fragment<L: Ledger>(
     work: &Work,
     swept: Swept,
     number: u32,
@@ -68,10 +88,10 @@ fn add_if_seen<L: Ledger>(
     }
 }
 
-/// Whether a kernel of this reach sees a pixel of the rectangle from a pixel.
+/// Whether the rectangle has a pixel no further than this from a pixel, in x and in y.
 #[inline]
 fn sees(reach: i32, at: Pix, rect: &Rect) -> bool
-    requires reach { (pos 0 ≤ℤ reach) × (reach ≤ℤ pos 64) }
+    requires reach { (pos 0 ≤ℤ reach) × (reach ≤ℤ pos 80) }
     requires at { IsPixWithin 1048100 at }
     ensures { result ≡ meet (window_of reach at) rect.now }
 {

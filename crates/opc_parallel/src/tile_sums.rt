@@ -8,7 +8,7 @@ ghost use Rattle.tiles.specs.Meets.{meet_tile};
 ghost use Rattle.opc_parallel.specs.Stored.{CanTake, change_at, list_change, start_at};
 ghost use Rattle.opc_parallel.specs.Conditions.{IsReady, IsSweepable, setting_of};
 
-use crate::fragment_sums::{add_to_fragment, stride};
+use crate::fragment_sums::{add_if_near, stride};
 use crate::work::Work;
 use opc_base::{Rect, Steps, Swept};
 use std::sync::ledger::{Blank, Ledger};
@@ -129,6 +129,6 @@ fn add_to_tile<L: Ledger>(
     for (place, number) in work.index.fragments(tile).iter().enumerate() {
         let start = place * stride;
         let own = &mut sums[start..start + stride];
-        add_to_fragment(work, swept, *number, own, steps);
+        add_if_near(work, swept, *number, own, steps);
     }
 }

@@ -1,12 +1,8 @@
 //! Tiles that rectangles reach.
 
-ghost use Rattle.std.specs.Prelude.{All, IfOk};
-ghost use Rattle.opc_base.specs.Canonical.{IsSolid};
-ghost use Rattle.opc_base.specs.Plane.{IsRectWithin};
-
 use crate::scene::Scene;
-use opc_base::{NoMemory, Rect};
-use std::alloc::Global;
+use crate::targets::squares;
+use opc_base::Rect;
 use std::test::Fail;
 
 const NEAR: Rect = Rect {
@@ -75,36 +71,9 @@ fn tiles_of_negative_numbers(rt: HostRuntime) -> Result<(), Fail> {
     Ok(())
 }
 
-/// A square of ten by ten pixels, 30 pixels apart from the next in its row and in its column.
-fn square(column: u8, row: u8) -> Rect
-    ensures solid { IsSolid result }
-    ensures within { IsRectWithin 1048000 result }
-{
-    let x0 = 30 * i32::from(column);
-    let y0 = 30 * i32::from(row);
-    Rect {
-        x0,
-        y0,
-        x1: x0 + 10,
-        y1: y0 + 10,
-    }
-}
-
-/// 64 rows of 128 squares.
-fn squares(alloc: Global) -> Result<Vec<Rect>, NoMemory>
-    ensures solid { IfOk result (λ rects. All IsSolid rects.items) }
-    ensures within { IfOk result (λ rects. All (IsRectWithin 1048000) rects.items) }
-{
-    let mut rects = Vec::new(alloc);
-    for number in 0..8192u16 {
-        rects.push(square((number % 128) as u8, (number / 128) as u8))?;
-    }
-    Ok(rects)
-}
-
 #[test]
 fn tiles_of_most_fragments(rt: HostRuntime) -> Result<(), Fail> {
-    let target = squares(rt.alloc())?;
+    let target = squares(rt.alloc(), 8192, 30)?;
     let scene = Scene::new(rt.alloc(), &target).expect(&rt, "a scene");
     assert_eq!(rt; scene.fragments.count(), 32768);
 

@@ -2,7 +2,7 @@
 use Rattle.std.proofs.Common.{◌≡◌, ℕ, ◌+◌, ◌<◌, ◌≤◌, ℤ, pos, negsuc, neg_ℤ, ◌+ℤ◌, ◌-ℤ◌, ◌*ℤ◌, ◌≤ℤ◌, ◌<ℤ◌, int_le, int_lt, unsigned_abs, Bool, true, false, ◌&&◌, if◌then◌else◌, IsTrue, IsFalse, arith}
 use Rattle.std.proofs.lemmas.Int.{ints, clamps}
 use Rattle.std.specs.Int.{int_max, int_min}
-use Rattle.opc_base.specs.Lanes.{lane_entry}
+use Rattle.opc_base.specs.Lanes.{lane_entry, part_of_lane}
 use Rattle.opc_base.specs.Plane.{rect_cover}
 use Rattle.opc_base.specs.declared.kernels.KernelSet.{KernelSet}
 use Rattle.opc_base.specs.declared.plane.Pix.{Pix}
@@ -71,7 +71,7 @@ high_row_fails r s apart = rows (int_lt (int_max r.x0 s.x0) (int_min r.x1 s.x1))
 
 -- ---- what a sample sees
 -- the samples of a fragment lie no further from where it stands than there are samples to a side
-abbrev IsNearBy : ℕ → Pix → Pix → Type 0
+abbrev pub IsNearBy : ℕ → Pix → Pix → Type 0
 IsNearBy n p q = (unsigned_abs (p.x -ℤ q.x) ≤ n) × (unsigned_abs (p.y -ℤ q.y) ≤ n)
 
 sample_near : (side : Side) (edge : ℤ) (k n : ℕ) → k < n + n → unsigned_abs (sample_place side edge (pos k -ℤ pos n) -ℤ sample_place side edge (negsuc 0)) ≤ n
@@ -83,7 +83,7 @@ sample_near Up edge k n below = omega (arith, ints)
 itself_near : (z : ℤ) (n : ℕ) → unsigned_abs (z -ℤ z) ≤ n
 itself_near z n = omega (arith, ints)
 
-site_near : (f : Fragment) (k n : ℕ) → k < n + n → IsNearBy n (site_of f (pos k -ℤ pos n)) (site_of f (negsuc 0))
+pub site_near : (f : Fragment) (k n : ℕ) → k < n + n → IsNearBy n (site_of f (pos k -ℤ pos n)) (site_of f (negsuc 0))
 site_near f k n below = by (is_vertical f.side)
   where
     by : (b : Bool) → IsNearBy n (if b then record { x = sample_place f.side f.edge (pos k -ℤ pos n); y = middle_of f } else record { x = middle_of f; y = sample_place f.side f.edge (pos k -ℤ pos n) })
@@ -91,17 +91,38 @@ site_near f k n below = by (is_vertical f.side)
     by true = (sample_near f.side f.edge k n below, itself_near (middle_of f) n)
     by false = (itself_near (middle_of f) n, sample_near f.side f.edge k n below)
 
--- one coordinate of what a sample sees lies in the grown square
-seen : (low side halo p q u : ℤ) (reach n : ℕ) → pos (reach + n) ≤ℤ halo → low ≤ℤ q → q <ℤ (low +ℤ side) → unsigned_abs (p -ℤ q) ≤ n →
-    neg_ℤ (pos reach) ≤ℤ u → u ≤ℤ pos reach → IsTrue (int_le (low -ℤ halo) (p -ℤ u) && int_lt (p -ℤ u) (low +ℤ side +ℤ halo))
-seen low side halo p q u reach n wide from upto near least most =
-    both (low -ℤ halo) (low +ℤ side +ℤ halo) (p -ℤ u) (omega (arith, ints)) (omega (arith, ints))
+not_in : (b c : Bool) → (IsTrue b → IsTrue c) → c ≡ false → IsFalse b
+not_in b c leads away = grind arith
+
+-- all that a kernel of this reach sees from a pixel lies in the rectangle
+pub record SeesWithin (reach : ℕ) (at : Pix) (r : Rect) : Type 0 where
+  pub left : r.x0 ≤ℤ (at.x -ℤ pos reach)
+  pub right : (at.x +ℤ pos reach) <ℤ r.x1
+  pub below : r.y0 ≤ℤ (at.y -ℤ pos reach)
+  pub above : (at.y +ℤ pos reach) <ℤ r.y1
+
+-- a rectangle that doesn't meet it adds nothing at the pixel
+pub unmet : (set : KernelSet) (at : Pix) (window rect : Rect) (lane : ℕ) → SeesWithin set.reach at window → meet window rect ≡ false →
+    part_of_lane set (rect_cover rect) at.x at.y lane ≡ pos 0
+unmet set at window rect lane sees away =
+    seen_sum-far set.reach (lane_entry set lane) (rect_cover rect) at.x at.y
+    (λ u v low_u high_u low_v high_v. not_in (rect_cover rect (at.x -ℤ u) (at.y -ℤ v)) (meet window rect)
+    (λ covered. meet-shared window rect (at.x -ℤ u) (at.y -ℤ v)
+    (four (int_le window.x0 (at.x -ℤ u)) (int_lt (at.x -ℤ u) window.x1) (int_le window.y0 (at.y -ℤ v)) (int_lt (at.y -ℤ v) window.y1)
+    (between window.x0 window.x1 at.x u set.reach sees.left sees.right low_u high_u)
+    (between window.y0 window.y1 at.y v set.reach sees.below sees.above low_v high_v)) covered) away)
   where
     both : (a b x : ℤ) → a ≤ℤ x → x <ℤ b → IsTrue (int_le a x && int_lt x b)
     both a b x first second = grind (arith, ints)
 
-not_in : (b c : Bool) → (IsTrue b → IsTrue c) → c ≡ false → IsFalse b
-not_in b c leads away = grind arith
+    between : (a b p u : ℤ) (reach : ℕ) → a ≤ℤ (p -ℤ pos reach) → (p +ℤ pos reach) <ℤ b → neg_ℤ (pos reach) ≤ℤ u → u ≤ℤ pos reach →
+        IsTrue (int_le a (p -ℤ u) && int_lt (p -ℤ u) b)
+    between a b p u reach low high least most = both a b (p -ℤ u) (omega (arith, ints)) (omega (arith, ints))
+
+-- one coordinate of what a sample sees lies in the grown square
+in_grown : (low side halo p q : ℤ) (reach n : ℕ) → pos (reach + n) ≤ℤ halo → low ≤ℤ q → q <ℤ (low +ℤ side) → unsigned_abs (p -ℤ q) ≤ n →
+    ((low -ℤ halo) ≤ℤ (p -ℤ pos reach)) × ((p +ℤ pos reach) <ℤ (low +ℤ side +ℤ halo))
+in_grown low side halo p q reach n wide from upto near = (omega (arith, ints), omega (arith, ints))
 
 -- a rectangle that doesn't meet a tile's grown square adds nothing at the samples of the tile's fragments
 pub far : (set : KernelSet) (n : ℕ) (f : Fragment) (tile : Listed) (side halo : ℤ) (rect : Rect) → pos (set.reach + n) ≤ℤ halo →
@@ -109,18 +130,19 @@ pub far : (set : KernelSet) (n : ℕ) (f : Fragment) (tile : Listed) (side halo 
     meet (record { x0 = tile.a *ℤ side -ℤ halo; y0 = tile.b *ℤ side -ℤ halo; x1 = tile.a *ℤ side +ℤ side +ℤ halo; y1 = tile.b *ℤ side +ℤ side +ℤ halo }) rect ≡ false →
     AddsNothing set n f rect
 far set n f tile side halo rect wide stands away k lane below =
-    seen_sum-far set.reach (lane_entry set lane) (rect_cover rect) here.x here.y
-    (λ u v low_u high_u low_v high_v. not_in (rect_cover rect (here.x -ℤ u) (here.y -ℤ v)) (meet square rect)
-    (λ covered. meet-shared square rect (here.x -ℤ u) (here.y -ℤ v)
-    (four (int_le square.x0 (here.x -ℤ u)) (int_lt (here.x -ℤ u) square.x1) (int_le square.y0 (here.y -ℤ v)) (int_lt (here.y -ℤ v) square.y1)
-    (seen (tile.a *ℤ side) side halo here.x (site_of f (negsuc 0)).x u set.reach n wide stands.left stands.right near.0 low_u high_u)
-    (seen (tile.b *ℤ side) side halo here.y (site_of f (negsuc 0)).y v set.reach n wide stands.below stands.above near.1 low_v high_v)) covered) away)
+    unmet set here square rect lane (record { left = across.0; right = across.1; below = along.0; above = along.1 }) away
   where
     here : Pix
     here = site_of f (pos k -ℤ pos n)
 
-    near : IsNearBy n (site_of f (pos k -ℤ pos n)) (site_of f (negsuc 0))
+    near : IsNearBy n here (site_of f (negsuc 0))
     near = site_near f k n below
 
     square : Rect
     square = record { x0 = tile.a *ℤ side -ℤ halo; y0 = tile.b *ℤ side -ℤ halo; x1 = tile.a *ℤ side +ℤ side +ℤ halo; y1 = tile.b *ℤ side +ℤ side +ℤ halo }
+
+    across : ((tile.a *ℤ side -ℤ halo) ≤ℤ (here.x -ℤ pos set.reach)) × ((here.x +ℤ pos set.reach) <ℤ (tile.a *ℤ side +ℤ side +ℤ halo))
+    across = in_grown (tile.a *ℤ side) side halo here.x (site_of f (negsuc 0)).x set.reach n wide stands.left stands.right near.0
+
+    along : ((tile.b *ℤ side -ℤ halo) ≤ℤ (here.y -ℤ pos set.reach)) × ((here.y +ℤ pos set.reach) <ℤ (tile.b *ℤ side +ℤ side +ℤ halo))
+    along = in_grown (tile.b *ℤ side) side halo here.y (site_of f (negsuc 0)).y set.reach n wide stands.below stands.above near.1

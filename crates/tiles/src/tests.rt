@@ -47,11 +47,16 @@ fn square_below_zero(alloc: Global) -> Result<Region, NoMemory>
     Ok(Region::from_rects(rects))
 }
 
+/// Takes what threads may share.
+fn share<T: Send + Sync>(_shared: &T) {}
+
 #[test]
 fn tiles_of_a_square(rt: HostRuntime) -> Result<(), Fail> {
     let region = square(rt.alloc())?;
     let fragments = cut(rt.alloc(), &region, &RULES)?;
     let index = TileIndex::build(rt.alloc(), &fragments, 16, 5)?;
+    share(&fragments);
+    share(&index);
     assert_eq!(rt; index.count(), 4);
     assert_eq!(rt; fragments.count(), 12);
 

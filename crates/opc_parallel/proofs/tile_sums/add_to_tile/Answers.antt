@@ -35,13 +35,13 @@ slice_bounds-own-end g c =
     rw c.stride-stride.ensures.stride (omega (arith, within, c.loop-place.invariant.same_length)) in
     omega (arith, ends)
 
-pub add_to_fragment-requires-clause-number : goal.add_to_fragment-requires-clause-number
-add_to_fragment-requires-clause-number g c =
+pub add_if_near-requires-clause-number : goal.add_if_near-requires-clause-number
+add_if_near-requires-clause-number g c =
     rw c.fragments-number-items.ensures
     (number_below (setting_of c.args.work.now) c.args.tile c.loop-place.place c.requires.ready c.requires.tile (rw c.fragments-number-items.ensures at c.loop-place-test.true))
 
-pub add_to_fragment-requires-clause-sums : goal.add_to_fragment-requires-clause-sums
-add_to_fragment-requires-clause-sums g c =
+pub add_if_near-requires-clause-sums : goal.add_if_near-requires-clause-sums
+add_if_near-requires-clause-sums g c =
     let s = setting_of c.args.work.now in
     let within = tile_fits s c.args.tile (length c.args.sums.now) c.loop-place.place c.requires.tile c.requires.size (rw c.fragments-number-items.ensures at c.loop-place-test.true) in
     rw c.stride-stride.ensures.stride (AreLanes-part (stride_of s) (c.loop-place.place * stride_of s + stride_of s - c.loop-place.place * stride_of s) (c.loop-place.place * stride_of s) c.loop-place.sums (omega arith)
@@ -62,7 +62,7 @@ loop-place-preserved g c =
     (RisesBetween-part _ start (p * stride) _ stride _ _ (omega arith) (omega (arith, within, c.loop-place.invariant.same_length))
     (RisesBy-moved _ _ 0 (start + p * stride) _ _ (λ i below.
     rw (zero-add i) (change_at-fragment s c.args.swept c.args.tile p i (start + p * stride + i) _ c.requires.ready c.requires.tile p_below (omega arith) (omega (arith, part_length, below)) read))
-    (rw c.stride-stride.ensures.stride at c.add_to_fragment.ensures))))
+    (rw c.stride-stride.ensures.stride at c.add_if_near.ensures))))
 
 pub returns : goal.returns
 returns g c =
