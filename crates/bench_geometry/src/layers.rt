@@ -2,7 +2,6 @@
 
 use crate::fault::BenchFault;
 use crate::layouts::{HIGHEST, squares, tower};
-use geometry_rows::dice::Dice;
 use geometry_rows::fault::RowFault;
 use geometry_rows::moving::{Moving, target_fragments};
 use geometry_rows::written::{out_pick, write};
@@ -29,6 +28,9 @@ const MASK: MaskRules = MaskRules {
 /// The squares whose fragments move: 32,768 fragments.
 const MOVED_SQUARES: u32 = 8192;
 
+/// So many fragments further the next one moves: an odd number, so that each of a power of two has its turn.
+const STRIDE: u32 = 7919;
+
 /// One piece of work, and its line.
 pub fn run(alloc: Global, layer: &str, count: u32) -> Result<String, BenchFault> {
     match layer {
@@ -47,7 +49,7 @@ pub fn run_all(alloc: Global) -> Result<String, BenchFault> {
     let mask = run_mask(alloc, 100)?;
     let least = run_cut(alloc, 8192, false)?;
     let most = run_cut(alloc, 8190, true)?;
-    let moves = run_moves(alloc, 64, 1000)?;
+    let moves = run_moves(alloc, 64, 768)?;
     Ok(format!(in alloc; "{mask}\n{least}\n{most}\n{moves}")?)
 }
 
@@ -60,19 +62,8 @@ fn run_tower(alloc: Global, count: u32) -> Result<String, BenchFault> {
 fn run_mask(alloc: Global, count: u32) -> Result<String, BenchFault> {
     let region = tower(alloc, count.min(HIGHEST))?;
     let file = write(alloc, &region, &out_pick(alloc, b"MASK")?, 1)?;
-    let bytes = file.as_slice();
-    let sum = sum_of(bytes);
-    let size = bytes.len();
-    Ok(format!(in alloc; "mask {size} sum {sum}")?)
-}
-
-/// The sum of the bytes, each times a number that its place gives.
-fn sum_of(bytes: &[u8]) -> u32 {
-    let mut sum = 0u32;
-    for byte in bytes {
-        sum = sum.wrapping_mul(31).wrapping_add(u32::from(*byte));
-    }
-    sum
+    let size = file.as_slice().len();
+    Ok(format!(in alloc; "mask {size}")?)
 }
 
 /// What a cut is made of: squares that keep the rules of targets.
@@ -104,17 +95,18 @@ fn run_moves(alloc: Global, squares_moved: u32, count: u32) -> Result<String, Be
     Ok(format!(in alloc; "moves {count} refused {refused}")?)
 }
 
-/// So many random moves by up to two pixels.
+/// So many moves, and how many of them a rule refuses. All fragments move in by one pixel, each after one that is far away;
+/// then they move back, then out, then in again. A gap of two pixels refuses its two sides' moves out, and nothing else is
+/// refused: in a row of 64 squares 126 of the first 768 moves are.
 fn refused_moves(moving: &mut Moving, count: u32) -> Result<u32, BenchFault> {
     let fragments = moving.fragments().count();
     if fragments == 0 {
         return Ok(0);
     }
-    let mut dice = Dice::new(1);
     let mut refused = 0u32;
-    for _ in 0..count {
-        let i = dice.roll(fragments);
-        let to = dice.place() % 5 - 2;
+    for k in 0..count {
+        let i = k.wrapping_mul(STRIDE) % fragments;
+        let to = (k / fragments % 3) as i32 - 1;
         if moving.take(i, to)?.is_some() {
             refused = refused.saturating_add(1);
         }

@@ -2,8 +2,8 @@
 //!
 //! The words are a layer and a count: `tower` makes a region of so many rectangles and `mask` writes its mask file;
 //! `target` unites so many squares and checks them, and `cut` cuts them into fragments too; `moves` judges so many moves of
-//! the fragments of 8,192 squares. Each prints a line that depends on all that it made. With no words a small piece of each is done, and the
-//! cut at its limit. `bench/geometry.py` takes the times.
+//! the fragments of 8,192 squares. Each prints a line with numbers that are known beforehand. With no words a small piece
+//! of each is done, and the cut at its limit. `bench/geometry.py` takes the times.
 #![tactic(auto)]
 
 mod fault;

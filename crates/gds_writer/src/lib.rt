@@ -24,7 +24,5 @@
 mod boundary;
 mod mask;
 mod opening;
-#[cfg(test)]
-mod tests;
 
 pub use mask::write_mask;

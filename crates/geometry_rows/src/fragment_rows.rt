@@ -1,10 +1,12 @@
 //! Fragments of targets, worked out by hand: where they lie, what they meet, where their errors are measured.
 
-use crate::moving::Moving;
-use crate::rows::{CUT, MASK};
+use crate::fault::RowFault;
+use crate::moving::{Moving, target_fragments};
+use crate::rows::{CROSS, CUT, FINE, MASK, PIECES};
 use crate::shapes::{rect, region_of_polygons, region_of_rects};
 use fragment::Join;
-use opc_base::{CutRules, Pix, Side};
+use opc_base::{Pix, Side};
+use std::process::Abort;
 use std::test::Fail;
 
 #[test]
@@ -29,26 +31,73 @@ fn the_sides_of_a_square(rt: HostRuntime) -> Result<(), Fail> {
     Ok(())
 }
 
-// Sample -1 is the last pixel inside, and sample 0 the first outside.
+/// Where samples of fragments lie: the number of the fragment and of the sample, and the pixel.
+fn check_sites<R: Abort>(
+    rt: &R,
+    moving: &Moving,
+    rows: &[(u32, i32, (i32, i32))],
+) -> Result<(), RowFault> {
+    for &(i, t, wanted) in rows {
+        let Pix { x, y } = moving.site(i, t)?;
+        assert_eq!(rt; (x, y), wanted, "{i} {t}");
+    }
+    Ok(())
+}
+
+// Sample -1 is the last pixel inside, and sample 0 the first outside. The sides of the second rectangle have odd lengths,
+// and their middles lie below 0.
 #[test]
-fn the_sites_of_a_square(rt: HostRuntime) -> Result<(), Fail> {
+fn the_sites_of_whole_sides(rt: HostRuntime) -> Result<(), Fail> {
     let alloc = rt.alloc();
     let region = region_of_rects(alloc, &[rect(0, 0, 10, 10)])?;
-    let moving = Moving::of_target(alloc, &region, &CUT, MASK)?;
-    let fragments = moving.fragments();
-    assert_eq!(rt; fragments.count(), 4);
-    let sites = [
-        ((0, 5), (-1, 5)),
-        ((9, 5), (10, 5)),
-        ((5, 0), (5, -1)),
-        ((5, 9), (5, 10)),
+    let square = Moving::of_target(alloc, &region, &CUT, MASK)?;
+    let rows = [
+        (0, -1, (0, 5)),
+        (0, 0, (-1, 5)),
+        (1, -1, (9, 5)),
+        (1, 0, (10, 5)),
+        (2, -1, (5, 0)),
+        (2, 0, (5, -1)),
+        (3, -1, (5, 9)),
+        (3, 0, (5, 10)),
     ];
-    for (i, &(inside, outside)) in sites.iter().enumerate() {
-        let Pix { x, y } = fragments.site(i as u32, -1);
-        assert_eq!(rt; (x, y), inside);
-        let Pix { x, y } = fragments.site(i as u32, 0);
-        assert_eq!(rt; (x, y), outside);
-    }
+    check_sites(&rt, &square, &rows)?;
+    let region = region_of_rects(alloc, &[rect(-6, -4, 1, 1)])?;
+    let odd = Moving::of_target(alloc, &region, &CUT, MASK)?;
+    let rows = [
+        (0, -16, (9, -2)),
+        (0, 2, (-9, -2)),
+        (0, 15, (-22, -2)),
+        (1, -16, (-15, -2)),
+        (1, -3, (-2, -2)),
+        (1, 15, (16, -2)),
+        (2, -16, (-3, 11)),
+        (2, 2, (-3, -7)),
+        (2, 15, (-3, -20)),
+        (3, -16, (-3, -15)),
+        (3, 2, (-3, 3)),
+        (3, 15, (-3, 16)),
+    ];
+    check_sites(&rt, &odd, &rows)?;
+    Ok(())
+}
+
+// Pieces of 3, 4 and 3 of the left side, and of 3, 5, 4 and 3 of the upper side.
+#[test]
+fn the_sites_of_pieces(rt: HostRuntime) -> Result<(), Fail> {
+    let alloc = rt.alloc();
+    let region = region_of_rects(alloc, &[rect(0, 0, 15, 10)])?;
+    let bar = Moving::of_target(alloc, &region, &PIECES, MASK)?;
+    let rows = [
+        (0, -1, (0, 1)),
+        (1, -1, (0, 5)),
+        (2, -1, (0, 8)),
+        (10, 1, (1, 11)),
+        (11, 1, (5, 11)),
+        (12, 1, (10, 11)),
+        (13, 1, (13, 11)),
+    ];
+    check_sites(&rt, &bar, &rows)?;
     Ok(())
 }
 
@@ -56,28 +105,7 @@ fn the_sites_of_a_square(rt: HostRuntime) -> Result<(), Fail> {
 #[test]
 fn the_sides_of_a_cross_and_a_frame(rt: HostRuntime) -> Result<(), Fail> {
     let alloc = rt.alloc();
-    let region = region_of_polygons(
-        alloc,
-        &[
-            &[(0, 0), (10, 0), (10, 4), (0, 4), (0, 0)],
-            &[(5, 2), (12, 2), (12, 8), (5, 8), (5, 2)],
-            &[
-                (20, 0),
-                (30, 0),
-                (30, 10),
-                (20, 10),
-                (20, 5),
-                (23, 5),
-                (23, 7),
-                (27, 7),
-                (27, 3),
-                (23, 3),
-                (23, 5),
-                (20, 5),
-                (20, 0),
-            ],
-        ],
-    )?;
+    let region = region_of_polygons(alloc, &CROSS)?;
     let moving = Moving::of_target(alloc, &region, &CUT, MASK)?;
     let fragments = moving.fragments();
     assert_eq!(rt; fragments.count(), 16);
@@ -111,14 +139,8 @@ fn the_sides_of_a_cross_and_a_frame(rt: HostRuntime) -> Result<(), Fail> {
 #[test]
 fn pieces_of_an_edge_meet_at_cuts(rt: HostRuntime) -> Result<(), Fail> {
     let alloc = rt.alloc();
-    let rules = CutRules {
-        piece: 4,
-        corner_out: 3,
-        corner_in: 5,
-        line_end: 0,
-    };
     let region = region_of_rects(alloc, &[rect(0, 0, 15, 10)])?;
-    let moving = Moving::of_target(alloc, &region, &rules, MASK)?;
+    let moving = Moving::of_target(alloc, &region, &PIECES, MASK)?;
     let fragments = moving.fragments();
     assert_eq!(rt; fragments.count(), 14);
     let middle = fragments.get(7);
@@ -134,5 +156,49 @@ fn no_fragment_of_nothing(rt: HostRuntime) -> Result<(), Fail> {
     let region = region_of_rects(alloc, &[])?;
     let moving = Moving::of_target(alloc, &region, &CUT, MASK)?;
     assert_eq!(rt; moving.fragments().count(), 0);
+    Ok(())
+}
+
+// A square of six pixels a side, each of which is a fragment.
+#[test]
+fn fragments_of_one_pixel(rt: HostRuntime) -> Result<(), Fail> {
+    let alloc = rt.alloc();
+    let region = region_of_rects(alloc, &[rect(0, 0, 6, 6)])?;
+    let moving = Moving::of_target(alloc, &region, &FINE, MASK)?;
+    let fragments = moving.fragments();
+    assert_eq!(rt; fragments.count(), 24);
+    let left = [
+        (Join::Corner(12), Join::Cut(1)),
+        (Join::Cut(0), Join::Cut(2)),
+        (Join::Cut(1), Join::Cut(3)),
+        (Join::Cut(2), Join::Cut(4)),
+        (Join::Cut(3), Join::Cut(5)),
+        (Join::Cut(4), Join::Corner(18)),
+    ];
+    for (i, &joins) in left.iter().enumerate() {
+        let fragment = fragments.get(i as u32);
+        let low = i as i32;
+        assert_eq!(rt; (fragment.side, fragment.edge), (Side::Left, 0));
+        assert_eq!(rt; (fragment.lo, fragment.hi), (low, low + 1));
+        assert_eq!(rt; (fragment.low, fragment.high), joins, "{i}");
+    }
+    check_sites(&rt, &moving, &[(0, 0, (-1, 0)), (5, -1, (0, 5))])?;
+    Ok(())
+}
+
+// A square of 8,192 pixels a side; and an L whose sides are cut into 8,192, 8,193, 4,000, 8,191, 4,192 and 1 fragments.
+#[test]
+fn the_most_fragments(rt: HostRuntime) -> Result<(), Fail> {
+    let alloc = rt.alloc();
+    let square = region_of_rects(alloc, &[rect(0, 0, 8192, 8192)])?;
+    let most = target_fragments(alloc, &square, &FINE, &MASK)?;
+    assert_eq!(rt; most.count(), 32_768);
+    let angle = [rect(0, 0, 8193, 4000), rect(0, 0, 2, 8192)];
+    let angle = region_of_rects(alloc, &angle)?;
+    let refused = match target_fragments(alloc, &angle, &FINE, &MASK) {
+        Err(RowFault::TooManyFragments(count)) => count,
+        _ => 0,
+    };
+    assert_eq!(rt; refused, 32_769);
     Ok(())
 }

@@ -7,6 +7,7 @@ use crate::fault::RowFault;
 use crate::moving::Moving;
 use crate::outline_walk::Walk;
 use crate::plain_rules::PlainJudge;
+use crate::rows::short_runs;
 use crate::shapes::{rect, region_of_rects};
 use opc_base::{Broken, CutRules, MaskRules, NoMemory, Rect, RuleName};
 use std::alloc::Global;
@@ -21,12 +22,10 @@ const CUT: CutRules = CutRules {
     line_end: 0,
 };
 
-const MASK: MaskRules = MaskRules {
-    width: 2,
-    space: 2,
-    max_in: 2,
-    max_out: 3,
-};
+/// So many targets move under each of the rules, so many times each.
+const TARGETS: u32 = 20;
+
+const MOVES: u32 = 25;
 
 /// A rectangle of cells of three by three pixels, of which the window has eight by eight.
 fn cells(dice: &mut Dice) -> Rect {
@@ -54,6 +53,22 @@ struct Hits {
 }
 
 impl Hits {
+    fn none() -> Self {
+        Hits {
+            rules: [0; 6],
+            kept: 0,
+        }
+    }
+
+    /// All moves, those that keep the rules and those that don't.
+    fn moves(&self) -> u32 {
+        let mut moves = self.kept;
+        for hits in self.rules {
+            moves = moves.saturating_add(hits);
+        }
+        moves
+    }
+
     fn count(&mut self, broken: Option<Broken>) {
         match broken {
             None => self.kept = self.kept.saturating_add(1),
@@ -82,6 +97,7 @@ fn place_of(rule: RuleName) -> usize
 fn try_move<R: Abort>(
     rt: &R,
     alloc: Global,
+    rules: &MaskRules,
     moving: &mut Moving,
     dice: &mut Dice,
 ) -> Result<Option<Broken>, RowFault> {
@@ -99,43 +115,60 @@ fn try_move<R: Abort>(
         fragments: moving.fragments(),
         offsets: &offsets,
     };
-    let wanted = PlainJudge::new(alloc, walk, &MASK)?.first_broken();
+    let wanted = PlainJudge::new(alloc, walk, rules)?.first_broken();
     let found = moving.take(i, to)?;
     assert!(rt; found == wanted, "fragment {i} to {to}");
     Ok(found)
 }
 
-/// Random moves of one target, where it keeps the rules.
+/// The first of some random targets that keeps the rules.
+fn random_target(alloc: Global, rules: &MaskRules, dice: &mut Dice) -> Result<Moving, RowFault> {
+    for _ in 0..100 {
+        let region = region_of_rects(alloc, &some_cells(alloc, dice)?)?;
+        match Moving::of_target(alloc, &region, &CUT, *rules) {
+            Err(RowFault::BreaksRules) => {}
+            made => return made,
+        }
+    }
+    Err(RowFault::BreaksRules)
+}
+
+/// Random moves of one target.
 fn try_target<R: Abort>(
     rt: &R,
     alloc: Global,
+    rules: &MaskRules,
     dice: &mut Dice,
     hits: &mut Hits,
 ) -> Result<(), RowFault> {
-    let region = region_of_rects(alloc, &some_cells(alloc, dice)?)?;
-    let Ok(mut moving) = Moving::of_target(alloc, &region, &CUT, MASK) else {
-        return Ok(());
-    };
-    for _ in 0..50 {
-        let broken = try_move(rt, alloc, &mut moving, dice)?;
+    let mut moving = random_target(alloc, rules, dice)?;
+    for _ in 0..MOVES {
+        let broken = try_move(rt, alloc, rules, &mut moving, dice)?;
         hits.count(broken);
     }
     Ok(())
 }
 
+/// Random moves of random targets, some of which keep the rules, and some of which break each of them.
+fn try_rules<R: Abort>(rt: &R, alloc: Global, rules: &MaskRules) -> Result<(), RowFault> {
+    let mut dice = Dice::new(20_261_201);
+    let mut hits = Hits::none();
+    for _ in 0..TARGETS {
+        try_target(rt, alloc, rules, &mut dice, &mut hits)?;
+    }
+    assert_eq!(rt; hits.moves(), TARGETS * MOVES);
+    assert!(rt; hits.kept > 0, "{rules:?}");
+    for k in 0..6 {
+        assert!(rt; hits.rules[k] > 0, "M{k}: {rules:?}");
+    }
+    Ok(())
+}
+
+// Covered and uncovered runs of different least lengths.
 #[test]
 fn a_local_judge_and_a_plain_one(rt: HostRuntime) -> Result<(), Fail> {
-    let mut dice = Dice::new(20_261_201);
-    let mut hits = Hits {
-        rules: [0; 6],
-        kept: 0,
-    };
-    for _ in 0..60 {
-        try_target(&rt, rt.alloc(), &mut dice, &mut hits)?;
-    }
-    assert!(rt; hits.kept > 500, "{}", hits.kept);
-    for k in 0..6 {
-        assert!(rt; hits.rules[k] > 0, "M{k}: {}", hits.rules[k]);
+    for rules in [short_runs(2, 3), short_runs(3, 2)] {
+        try_rules(&rt, rt.alloc(), &rules)?;
     }
     Ok(())
 }

@@ -7,7 +7,7 @@ ghost use Rattle.outline_model.specs.Target.{IsBoundary};
 use crate::fault::RowFault;
 use fragment::{CutFault, Fragments, Near, cut};
 use mask_rules::{check_target, first_broken};
-use opc_base::{Broken, CutRules, MaskRules, Region, Swept};
+use opc_base::{Broken, CutRules, MaskRules, Pix, Region, Swept};
 use std::alloc::Global;
 use std::marker::Model;
 
@@ -72,6 +72,14 @@ impl Moving {
         let line = self.fragments.line(i, &self.offsets);
         let (low, high) = self.fragments.ends(i, &self.offsets);
         Ok((line, low, high))
+    }
+
+    /// The pixel of sample `t` of fragment `i`.
+    pub fn site(&self, i: u32, t: i32) -> Result<Pix, RowFault> {
+        if i >= self.fragments.count() || t < -16 || 15 < t {
+            return Err(RowFault::NoFragment);
+        }
+        Ok(self.fragments.site(i, t))
     }
 
     /// What the mask gains or loses where fragment `i` takes this offset. `None` where it stays.

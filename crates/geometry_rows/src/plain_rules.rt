@@ -1,5 +1,5 @@
 //! The mask rules, judged pixel by pixel over a whole outline in a small window: a plain program that a local judge is
-//! compared with. It is slow, and its numbers are small.
+//! compared with. It is a yardstick for tests, and has no contract. It is slow, and its numbers are small.
 
 use crate::outline_walk::{Part, Walk};
 use opc_base::{Broken, MaskRules, NoMemory, Pix, Place, RuleName};

@@ -54,45 +54,43 @@ fn squares_that_touch(rt: HostRuntime) -> Result<(), Fail> {
     Ok(())
 }
 
-// A frame, and in its hole a smaller frame.
+/// A frame, and in its hole a smaller frame.
+const FRAMES: [&[(i32, i32)]; 2] = [
+    &[
+        (0, 0),
+        (12, 0),
+        (12, 12),
+        (0, 12),
+        (0, 6),
+        (2, 6),
+        (2, 10),
+        (10, 10),
+        (10, 2),
+        (2, 2),
+        (2, 6),
+        (0, 6),
+        (0, 0),
+    ],
+    &[
+        (3, 3),
+        (9, 3),
+        (9, 9),
+        (3, 9),
+        (3, 6),
+        (5, 6),
+        (5, 7),
+        (7, 7),
+        (7, 5),
+        (5, 5),
+        (5, 6),
+        (3, 6),
+        (3, 3),
+    ],
+];
+
 #[test]
 fn a_hole_in_a_hole(rt: HostRuntime) -> Result<(), Fail> {
-    let alloc = rt.alloc();
-    let region = region_of_polygons(
-        alloc,
-        &[
-            &[
-                (0, 0),
-                (12, 0),
-                (12, 12),
-                (0, 12),
-                (0, 6),
-                (2, 6),
-                (2, 10),
-                (10, 10),
-                (10, 2),
-                (2, 2),
-                (2, 6),
-                (0, 6),
-                (0, 0),
-            ],
-            &[
-                (3, 3),
-                (9, 3),
-                (9, 9),
-                (3, 9),
-                (3, 6),
-                (5, 6),
-                (5, 7),
-                (7, 7),
-                (7, 5),
-                (5, 5),
-                (5, 6),
-                (3, 6),
-                (3, 3),
-            ],
-        ],
-    )?;
+    let region = region_of_polygons(rt.alloc(), &FRAMES)?;
     let wanted = [
         rect(0, 0, 12, 2),
         rect(0, 2, 2, 10),

@@ -1,7 +1,7 @@
 //! Shapes, and the region that they cover together.
 ghost use Rattle.std.specs.Prelude.{◌≡◌, ◌≤◌, true, unsigned_abs, All, IfOk};
 ghost use Rattle.opc_base.specs.Canonical.{IsSolid};
-ghost use Rattle.opc_base.specs.Cover.{IsClosed, IsPlaced, IsPolygon, IsRectilinear, IsStraight};
+ghost use Rattle.opc_base.specs.Cover.{AreRectangles, IsClosed, IsPlaced, IsPolygon, IsRectilinear, IsStraight};
 ghost use Rattle.opc_base.specs.Plane.{IsPixWithin, IsRectWithin};
 
 use crate::fault::RowFault;
@@ -50,15 +50,19 @@ impl Shapes {
         Ok(())
     }
 
-    /// Adds a rectangle.
-    pub fn add_rect(&mut self, alloc: Global, rect: Rect) -> Result<(), RowFault> {
-        if !is_rectangle(&rect) {
+    /// Adds the path that covers these rectangles.
+    pub fn add_path(&mut self, alloc: Global, rects: &[Rect]) -> Result<(), RowFault> {
+        if !are_rectangles(rects) {
             return Err(RowFault::NoShape);
         }
-        let mut rects = Vec::new(alloc);
-        rects.push(rect)?;
-        self.outlines.push(Outline::Path(Rects::from_vec(rects)))?;
+        let rects = Rects::from_vec(rects.to_vec(alloc)?);
+        self.outlines.push(Outline::Path(rects))?;
         Ok(())
+    }
+
+    /// Adds a rectangle.
+    pub fn add_rect(&mut self, alloc: Global, rect: Rect) -> Result<(), RowFault> {
+        self.add_path(alloc, &[rect])
     }
 
     /// The pixels that some shape covers.
@@ -97,6 +101,17 @@ pub fn rect(x0: i32, y0: i32, x1: i32, y1: i32) -> Rect
     ensures { result ≡ record { x0 = x0; y0 = y0; x1 = x1; y1 = y1 } }
 {
     Rect { x0, y0, x1, y1 }
+}
+
+fn are_rectangles(rects: &[Rect]) -> bool
+    ensures { result ≡ true → AreRectangles rects.now }
+{
+    for rect in rects {
+        if !is_rectangle(rect) {
+            return false;
+        }
+    }
+    true
 }
 
 fn is_rectangle(rect: &Rect) -> bool

@@ -12,7 +12,14 @@ use opc_base::{Bytes, Name, OutPick, Pick, Region};
 use rect_union::union;
 use std::alloc::Global;
 
-/// The head of a library `LIB`.
+/// HEADER 600, BGNLIB, LIBNAME `LIB`, UNITS.
+pub const HEAD: [u8; 62] = [
+    0, 6, 0, 2, 2, 88, 0, 28, 1, 2, 0, 0, 0, 0, 0, 0, 0, 0, 0, 0, 0, 0, 0, 0, 0, 0, 0, 0, 0, 0, 0,
+    0, 0, 0, 0, 8, 2, 6, 76, 73, 66, 0, 0, 20, 3, 5, 65, 16, 0, 0, 0, 0, 0, 0, 65, 16, 0, 0, 0, 0,
+    0, 0,
+];
+
+/// The bodies of the head's records.
 pub fn head(alloc: Global) -> Result<Head, RowFault>
     ensures header { IfOk result (λ head. length head.header ≡ 2) }
     ensures dates { IfOk result (λ head. length head.dates ≡ 24) }
@@ -20,10 +27,10 @@ pub fn head(alloc: Global) -> Result<Head, RowFault>
     ensures units { IfOk result (λ head. length head.units ≡ 16) }
 {
     Ok(Head {
-        header: bytes(alloc, &[2, 88])?,
-        dates: bytes(alloc, &[0; 24])?,
-        name: bytes(alloc, &[76, 73, 66, 0])?,
-        units: bytes(alloc, &[65, 16, 0, 0, 0, 0, 0, 0, 65, 16, 0, 0, 0, 0, 0, 0])?,
+        header: bytes(alloc, &HEAD[4..6])?,
+        dates: bytes(alloc, &HEAD[10..34])?,
+        name: bytes(alloc, &HEAD[38..42])?,
+        units: bytes(alloc, &HEAD[46..])?,
     })
 }
 

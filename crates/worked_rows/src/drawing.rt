@@ -24,19 +24,23 @@ pub struct Turn {
     pub angle: Option<[u8; 8]>,
 }
 
+/// Neither reflected, magnified nor turned.
 pub const UPRIGHT: Turn = Turn {
     flip: false,
     mag: None,
     angle: None,
 };
 
-/// The reals 90, 180, 270 and 2.
+/// The real 90.
 pub const NINETY: [u8; 8] = [0x42, 0x5a, 0, 0, 0, 0, 0, 0];
 
+/// The real 180.
 pub const HALF_TURN: [u8; 8] = [0x42, 0xb4, 0, 0, 0, 0, 0, 0];
 
+/// The real 270.
 pub const THREE_QUARTERS: [u8; 8] = [0x43, 0x10, 0xe0, 0, 0, 0, 0, 0];
 
+/// The real 2.
 pub const TWO: [u8; 8] = [0x41, 0x20, 0, 0, 0, 0, 0, 0];
 
 /// A layout in the making. Its first structure is `TOP`, whose first element stands at offset 98; shapes are on layer 1,
@@ -61,19 +65,23 @@ impl Drawing {
         self.record([6, 6], name)
     }
 
+    /// A BOUNDARY through these points.
     pub fn boundary(&mut self, points: &[Point]) -> Result<(), NoMemory> {
         self.shape(8, 14, points)
     }
 
+    /// A BOUNDARY round a square, from its lower left.
     pub fn square(&mut self, x: i32, y: i32, side: i32) -> Result<(), NoMemory> {
         let (right, top) = (x.saturating_add(side), y.saturating_add(side));
         self.boundary(&[(x, y), (right, y), (right, top), (x, top), (x, y)])
     }
 
+    /// A BOX through these points.
     pub fn box_shape(&mut self, points: &[Point]) -> Result<(), NoMemory> {
         self.shape(0x2d, 0x2e, points)
     }
 
+    /// A PATH with all that says how it is drawn.
     pub fn path(&mut self, line: &Line, points: &[Point]) -> Result<(), NoMemory> {
         self.layer(9, 14)?;
         self.record([0x21, 2], &line.ends.to_be_bytes())?;
@@ -81,6 +89,11 @@ impl Drawing {
         self.record([0x30, 3], &line.begin.to_be_bytes())?;
         self.record([0x31, 3], &line.end.to_be_bytes())?;
         self.points(points)
+    }
+
+    /// A PATH without WIDTH, and without what else says how it is drawn.
+    pub fn bare_path(&mut self, points: &[Point]) -> Result<(), NoMemory> {
+        self.shape(9, 14, points)
     }
 
     /// A TEXT that is magnified twice.

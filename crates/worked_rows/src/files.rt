@@ -25,6 +25,7 @@ pub const OPENING: [u8; 98] = [
 /// A pixel rectangle: left, low, right and high side.
 pub type Sides = [i32; 4];
 
+/// The square from (0, 0) to (10, 10).
 pub const SQUARE: Sides = [0, 0, 10, 10];
 
 /// A BOUNDARY on layer 1, datatype 0, that walks round a rectangle from its lower left.

@@ -29,12 +29,10 @@ fn with_byte(alloc: Global, at: usize, byte: u8) -> Result<Vec<u8>, NoMemory> {
     Ok(layout)
 }
 
-/// A square and 78 bytes, of which the byte at 200 is this one and all others are 0.
-fn padded(alloc: Global, byte: u8) -> Result<Vec<u8>, NoMemory> {
+/// A square, and these bytes after its end.
+fn with_tail(alloc: Global, tail: &[u8]) -> Result<Vec<u8>, NoMemory> {
     let mut layout = layout_of(alloc, &[SQUARE])?;
-    layout.extend_from_slice(&[0; 30])?;
-    layout.push(byte)?;
-    layout.extend_from_slice(&[0; 47])?;
+    layout.extend_from_slice(tail)?;
     Ok(layout)
 }
 
@@ -48,9 +46,13 @@ fn cut(alloc: Global, len: usize) -> Result<Vec<u8>, NoMemory> {
 #[test]
 fn bytes_after_the_end(rt: HostRuntime) -> Result<(), NoMemory> {
     let alloc = rt.alloc();
+    let whole = (0, "intensity 81\n");
     let trailing = (5, "opc: layout: trailing byte at 200\n");
-    check_layout(&rt, alloc, &padded(alloc, 0)?, (0, "intensity 81\n"))?;
-    check_layout(&rt, alloc, &padded(alloc, 1)?, trailing)
+    let mut tail = [0; 78];
+    check_layout(&rt, alloc, &with_tail(alloc, &[0])?, whole)?;
+    check_layout(&rt, alloc, &with_tail(alloc, &tail)?, whole)?;
+    tail[30] = 1;
+    check_layout(&rt, alloc, &with_tail(alloc, &tail)?, trailing)
 }
 
 #[test]

@@ -1,8 +1,8 @@
 //! Worked examples of the whole program, as tests: `opc_run` over a host in memory.
 //!
-//! `files` makes layouts of rectangles and kernel files, `drawing` layouts of any shapes and references, `hosts` what a host holds of them, and `runs` runs a line of words over them
-//! and compares the status and what was said. Each other module has the rows of one subject, with numbers that were
-//! found by hand.
+//! `files` makes layouts of rectangles and kernel files, `drawing` layouts of any shapes and references, `hosts` what a
+//! host holds of them, and `runs` runs a line of words over them and compares the status and what was said. Each other
+//! module has the rows of one subject, with numbers that were found by hand.
 #![tactic(auto)]
 
 #[cfg(test)]
@@ -10,6 +10,8 @@ mod drawing;
 #[cfg(test)]
 mod fault_rows;
 pub mod files;
+#[cfg(test)]
+mod host_rows;
 pub mod hosts;
 #[cfg(test)]
 mod kernel_rows;

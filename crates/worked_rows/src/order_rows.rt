@@ -22,42 +22,33 @@ fn files_that_are_refused(rt: HostRuntime) -> Result<(), NoMemory> {
     let kernels = kernel_of(alloc, &ONES)?;
     let cut = cut_kernel(alloc)?;
     let long = vec![in alloc; 0u8; 1_065_073]?;
-    let no_layout = (5, "opc: layout: bad length at 0\n");
+    let (layout, kernels) = (layout.as_slice(), kernels.as_slice());
+    let (cut, long) = (cut.as_slice(), long.as_slice());
+    let no_layout = b"no layout".as_slice();
+    let bad_length = (5, "opc: layout: bad length at 0\n");
+    let no_top = (5, "opc: layout: no top structure\n");
     let wrong = (6, "opc: kernels: wrong length\n");
     let too_long = (6, "opc: kernels: too long\n");
     let unread = (3, "opc: cannot read none\n");
-    check_calm(&rt, alloc, PROBE, (&layout, &cut), wrong)?;
-    check_calm(&rt, alloc, PROBE, (b"no layout", &cut), wrong)?;
-    check_calm(&rt, alloc, PROBE, (b"no layout", &long), too_long)?;
-    check_calm(&rt, alloc, PROBE, (b"no layout", &kernels), no_layout)?;
-    check_calm(
-        &rt,
-        alloc,
-        "probe layout kernels NONE 1 0 5 5",
-        (&layout, &kernels),
-        (5, "opc: layout: no top structure\n"),
-    )?;
-    check_calm(
-        &rt,
-        alloc,
-        "probe none kernels TOP 1 0 5 5",
-        (&layout, &cut),
-        unread,
-    )?;
-    check_calm(
-        &rt,
-        alloc,
-        "probe layout none TOP 1 0 5 5",
-        (b"no layout", &cut),
-        unread,
-    )?;
-    check_calm(
-        &rt,
-        alloc,
-        "probe none none TOP 1 0 5 5e1",
-        (&layout, &cut),
-        (2, "opc: words\n"),
-    )
+    let words = (2, "opc: words\n");
+    let rows = [
+        (PROBE, (layout, cut), wrong),
+        (PROBE, (no_layout, cut), wrong),
+        (PROBE, (no_layout, long), too_long),
+        (PROBE, (no_layout, kernels), bad_length),
+        (
+            "probe layout kernels NONE 1 0 5 5",
+            (layout, kernels),
+            no_top,
+        ),
+        ("probe none kernels TOP 1 0 5 5", (layout, cut), unread),
+        ("probe layout none TOP 1 0 5 5", (no_layout, cut), unread),
+        ("probe none none TOP 1 0 5 5e1", (layout, cut), words),
+    ];
+    for (line, files, wanted) in rows {
+        check_calm(&rt, alloc, line, files, wanted)?;
+    }
+    Ok(())
 }
 
 #[test]
@@ -104,6 +95,15 @@ fn the_line_of_a_fault_fails_too(rt: HostRuntime) -> Result<(), NoMemory> {
     let loads = two(alloc, Fail { call: 1, keep: 0 }, Fail { call: 2, keep: 5 })?;
     check(&rt, alloc, PROBE, files, loads, (3, "opc: "))?;
     check(&rt, alloc, PROBE, cut, one(alloc, 3, 7)?, (6, "opc: ke"))?;
+    let refused = (b"no layout".as_slice(), kernels.as_slice());
+    check(
+        &rt,
+        alloc,
+        PROBE,
+        refused,
+        one(alloc, 3, 9)?,
+        (5, "opc: layo"),
+    )?;
     check(
         &rt,
         alloc,

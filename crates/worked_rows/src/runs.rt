@@ -18,6 +18,7 @@ pub fn words_of_line(alloc: Global, line: &str) -> Result<Vec<String>, NoMemory>
     Ok(words)
 }
 
+/// Whether two texts have the same bytes.
 pub fn are_same(left: &[u8], right: &[u8]) -> bool {
     left == right
 }

@@ -93,14 +93,15 @@ fn windings_are_not_added_up(rt: HostRuntime) -> Result<(), NoMemory> {
 }
 
 /// So many columns and rows of squares of one pixel, with a pixel between them.
-fn squares(alloc: Global, count: i16) -> Result<Vec<u8>, NoMemory> {
-    let far = 2 * i32::from(count);
+fn squares(alloc: Global, columns: i16, rows: i16) -> Result<Vec<u8>, NoMemory> {
+    let right = 2 * i32::from(columns);
+    let top = 2 * i32::from(rows);
     let mut drawing = Drawing::new(alloc)?;
     drawing.array(
         b"CELL",
         UPRIGHT,
-        (count, count),
-        &[(0, 0), (far, 0), (0, far)],
+        (columns, rows),
+        &[(0, 0), (right, 0), (0, top)],
     )?;
     drawing.structure(b"CELL")?;
     drawing.square(0, 0, 1)?;
@@ -110,14 +111,11 @@ fn squares(alloc: Global, count: i16) -> Result<Vec<u8>, NoMemory> {
 #[test]
 fn the_most_corners(rt: HostRuntime) -> Result<(), NoMemory> {
     let alloc = rt.alloc();
+    let most = squares(alloc, 128, 128)?;
+    let more = squares(alloc, 129, 128)?;
     let too_many = "opc: layout: too many corners\n";
-    check_cover(
-        &rt,
-        alloc,
-        &squares(alloc, 128)?,
-        &[(254, 254, 1), (253, 254, 0)],
-    )?;
-    check_refused(&rt, alloc, &squares(alloc, 129)?, too_many)
+    check_cover(&rt, alloc, &most, &[(254, 254, 1), (253, 254, 0)])?;
+    check_refused(&rt, alloc, &more, too_many)
 }
 
 /// 128 copies of a square of 8,190 points at one place, which have 1,048,320 points, and a path without width of this many.
@@ -144,4 +142,24 @@ fn the_most_points(rt: HostRuntime) -> Result<(), NoMemory> {
     let too_many = "opc: layout: too many points 1048577\n";
     check_cover(&rt, alloc, &many_points(alloc, 256)?, &[(9, 9, 1)])?;
     check_refused(&rt, alloc, &many_points(alloc, 257)?, too_many)
+}
+
+/// 1,024 by 512 copies of a path of two points without width, which have 1,048,576 points, and a square if it is asked for.
+fn many_paths(alloc: Global, with_square: bool) -> Result<Vec<u8>, NoMemory> {
+    let mut drawing = Drawing::new(alloc)?;
+    drawing.array(b"CELL", UPRIGHT, (1_024, 512), &[(0, 0), (0, 0), (0, 0)])?;
+    if with_square {
+        drawing.square(0, 0, 10)?;
+    }
+    drawing.structure(b"CELL")?;
+    drawing.bare_path(&[(0, 0), (10, 0)])?;
+    drawing.end()
+}
+
+#[test]
+fn the_most_points_of_paths(rt: HostRuntime) -> Result<(), NoMemory> {
+    let alloc = rt.alloc();
+    let too_many = "opc: layout: too many points 1048581\n";
+    check_cover(&rt, alloc, &many_paths(alloc, false)?, &[(5, 0, 0)])?;
+    check_refused(&rt, alloc, &many_paths(alloc, true)?, too_many)
 }
