@@ -10,3 +10,9 @@ returns-in_err-read_library-clause-refusal c =
 
 pub returns-clause-records : goal.returns-clause-records
 returns-clause-records c = records_are_longest c.args.layout.now 0
+
+pub returns-then-layout-gt-MAX_LAYOUT-clause-records : goal.returns-then-layout-gt-MAX_LAYOUT-clause-records
+returns-then-layout-gt-MAX_LAYOUT-clause-records c = records_are_longest c.args.layout.now 0
+
+pub returns-in_err-read_library-clause-records : goal.returns-in_err-read_library-clause-records
+returns-in_err-read_library-clause-records c = records_are_longest c.args.layout.now 0
