@@ -9,39 +9,23 @@ which has to be the same. The time of the tables is that of a run without rectan
 kernels alone. Run by hand; the gate never runs it.
 """
 import os
-import resource
-import subprocess
 import sys
 import tempfile
-import time
 
-HERE = os.path.dirname(os.path.abspath(__file__))
+from timing import HERE, best, compiled
+
 PROVED = os.path.join(HERE, "..", "crates", "bench_sums", "out", "bench_sums")
-RUNS = 5
-
-
-def run(program, word):
-    """The least wall time and processor time of a few runs, and what the program printed."""
-    walls, users = [], []
-    for _ in range(RUNS):
-        user, start = resource.getrusage(resource.RUSAGE_CHILDREN).ru_utime, time.perf_counter()
-        done = subprocess.run([program, str(word)], check=True, capture_output=True, text=True)
-        walls.append(time.perf_counter() - start)
-        users.append(resource.getrusage(resource.RUSAGE_CHILDREN).ru_utime - user)
-    return min(walls), min(users), done.stdout.strip()
 
 
 def main():
     count = int(sys.argv[1]) if len(sys.argv) > 1 else 20_000_000
     with tempfile.TemporaryDirectory() as folder:
-        written = os.path.join(folder, "add_rect")
-        compiler = os.environ.get("CC", "cc")
-        subprocess.run([compiler, "-O3", "-march=x86-64-v2", "-o", written, os.path.join(HERE, "add_rect.c")], check=True)
+        written = compiled("add_rect", folder)
         each = []
         for name, program in (("proved", PROVED), ("C", written)):
-            kernels, _, _ = run(program, "set")
-            tables, before, _ = run(program, 0)
-            _, after, said = run(program, count)
+            kernels, _, _ = best(program, "set")
+            tables, before, _ = best(program, 0)
+            _, after, said = best(program, count)
             each.append((after - before, said))
             print(f"{name}: start and kernels {kernels * 1e3:.1f} ms, tables {(tables - kernels) * 1e3:.1f} ms, {count} rectangles "
                   f"{(after - before) * 1e3:.0f} ms, {(after - before) / count * 1e9:.1f} ns each, number {said}")
@@ -49,4 +33,5 @@ def main():
     print(f"ratio {proved / by_hand:.2f}, the numbers are {'the same' if said == wanted else 'DIFFERENT'}")
 
 
-main()
+if __name__ == "__main__":
+    main()

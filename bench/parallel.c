@@ -3,15 +3,14 @@
  * where 0 adds nothing and any other is one worker, and the second a count of squares. 8 kernels of reach 40 under two
  * transmissions, 8 samples to a side, tiles of 64 pixels.
  */
-#include <stdint.h>
 #include <stdio.h>
 #include <stdlib.h>
-#include <string.h>
 
-enum { REACH = 40, KERNELS = 8, LANES = 2 * KERNELS, WIDTH = 2 * REACH + 2, PLACES = 2 * REACH + 1 };
+enum { REACH = 40, KERNELS = 8 };
+
+#include "lanes.h"
+
 enum { SAMPLES = 8, SIDE = 64, HALO = REACH + SAMPLES, COLUMNS = 128, ROWS = 64, MOST = 4 * COLUMNS * ROWS };
-
-typedef int64_t eight __attribute__((vector_size(64), aligned(8)));
 
 enum side { LEFT, RIGHT, DOWN, UP };
 struct rect { int x0, y0, x1, y1; };
@@ -19,56 +18,14 @@ struct pix { int x, y; };
 struct fragment { enum side side; int edge, lo, hi; };
 struct key { int b, a; uint32_t number; };
 
-static uint32_t state = 1;
-static int16_t entries[KERNELS][PLACES][PLACES][2];
-static int64_t table[WIDTH][WIDTH][LANES];
-
 static struct fragment fragments[MOST];
 static struct rect moves[MOST];
 static struct key keys[MOST];
 static uint32_t count, tiles, numbers[MOST], firsts[MOST + 1];
 static struct key squares[MOST];
 
-/* As in the proved program, these are known when it runs, and not when it is compiled. */
-static volatile int set_reach = REACH, set_lanes = LANES, set_samples = SAMPLES, set_side = SIDE, set_halo = HALO;
-static int reach, lane_count, samples, side, halo;
-
-static int next_number(int least, int most)
-{
-    state = state * 1664525u + 1013904223u;
-    return least + (int)(state >> 16) % most;
-}
-
-static void read_entry(int16_t *entry, int most)
-{
-    entry[0] = (int16_t)next_number(-most, 2 * most + 1);
-    entry[1] = (int16_t)next_number(-most, 2 * most + 1);
-}
-
-static int64_t product(const int16_t *a, const int16_t *b, int lane)
-{
-    return lane % 2 == 0 ? (int64_t)a[0] * b[0] - (int64_t)a[1] * b[1] : (int64_t)a[0] * b[1] + (int64_t)a[1] * b[0];
-}
-
-static void build_tables(void)
-{
-    int16_t covered[2], uncovered[2], contrast[2];
-    for (int kernel = 0; kernel < KERNELS; kernel++) {
-        for (int row = 0; row < PLACES; row++)
-            for (int column = 0; column < PLACES; column++)
-                read_entry(entries[kernel][row][column], 128);
-        next_number(1, 9);
-    }
-    read_entry(covered, 8);
-    read_entry(uncovered, 8);
-    contrast[0] = covered[0] - uncovered[0];
-    contrast[1] = covered[1] - uncovered[1];
-    for (int row = 1; row < WIDTH; row++)
-        for (int column = 1; column < WIDTH; column++)
-            for (int lane = 0; lane < LANES; lane++)
-                table[row][column][lane] = table[row][column - 1][lane] + table[row - 1][column][lane]
-                    - table[row - 1][column - 1][lane] + product(entries[lane / 2][row - 1][column - 1], contrast, lane);
-}
+static volatile int set_samples = SAMPLES, set_side = SIDE, set_halo = HALO;
+static int samples, side, halo;
 
 /* An edge of the square of this column and row, and what it sweeps where it moves outward by one pixel. */
 static void add_edge(enum side at, int column, int row)
@@ -140,30 +97,6 @@ static void build_tiles(void)
     firsts[tiles] = count;
 }
 
-static int clamped(int d)
-{
-    int low = d < -reach - 1 ? -reach - 1 : d;
-    return (low > reach ? reach : low) + reach + 1;
-}
-
-static const int64_t *block(int dx, int dy)
-{
-    size_t width = 2 * (size_t)reach + 2;
-    return &table[0][0][0] + ((size_t)clamped(dy) * width + (size_t)clamped(dx)) * (size_t)lane_count;
-}
-
-static void add_rect(int64_t *lanes, struct pix at, const struct rect *r)
-{
-    const int64_t *a = block(at.x - r->x0, at.y - r->y0), *b = block(at.x - r->x1, at.y - r->y0);
-    const int64_t *c = block(at.x - r->x0, at.y - r->y1), *d = block(at.x - r->x1, at.y - r->y1);
-    int lane = 0;
-    for (; lane + 8 <= lane_count; lane += 8)
-        *(eight *)(lanes + lane) += *(const eight *)(a + lane) - *(const eight *)(b + lane) - *(const eight *)(c + lane)
-            + *(const eight *)(d + lane);
-    for (; lane < lane_count; lane++)
-        lanes[lane] += a[lane] - b[lane] - c[lane] + d[lane];
-}
-
 static int overlap(int a, int b, int c, int d)
 {
     return (a > c ? a : c) < (b < d ? b : d);
@@ -185,7 +118,7 @@ static void add_to_fragment(int64_t *sums, uint32_t number, const struct rect *r
     for (int sample = 0; sample < 2 * samples; sample++) {
         struct pix at = site(number, sample - samples);
         if (sees(reach, at, r))
-            add_rect(sums + (size_t)sample * (size_t)lane_count, at, r);
+            add_rect(sums + (size_t)sample * (size_t)lane_count, at.x, at.y, r->x0, r->y0, r->x1, r->y1);
     }
 }
 
@@ -234,6 +167,7 @@ int main(int argc, char **argv)
     int workers = argc > 1 ? atoi(argv[1]) : 1, wanted = argc > 2 ? atoi(argv[2]) : COLUMNS * ROWS;
     uint64_t sum = 0;
     reach = set_reach, lane_count = set_lanes, samples = set_samples, side = set_side, halo = set_halo;
+    read_set();
     build_tables();
     build_layout(wanted < COLUMNS * ROWS ? wanted : COLUMNS * ROWS);
     build_tiles();

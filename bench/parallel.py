@@ -11,26 +11,10 @@ the threads of one session may share one processor, whatever their priority: mea
 priority (/proc/self/autogroup). Processor times are printed too, which other work changes less. Run by hand; the gate never
 runs it.
 """
-import os
-import resource
-import subprocess
 import sys
 import tempfile
-import time
 
-HERE = os.path.dirname(os.path.abspath(__file__))
-RUNS = 5
-
-
-def best(program, workers, squares):
-    """The least wall time and processor time of a few runs, in seconds, and what the program printed."""
-    walls, users = [], []
-    for _ in range(RUNS):
-        user, start = resource.getrusage(resource.RUSAGE_CHILDREN).ru_utime, time.perf_counter()
-        done = subprocess.run([program, str(workers), str(squares)], check=True, capture_output=True, text=True)
-        walls.append(time.perf_counter() - start)
-        users.append(resource.getrusage(resource.RUSAGE_CHILDREN).ru_utime - user)
-    return min(walls), min(users), done.stdout.strip()
+from timing import best, compiled
 
 
 def measure(name, program, counts, squares):
@@ -52,10 +36,7 @@ def main():
         sys.exit(__doc__)
     squares = int(sys.argv[2]) if len(sys.argv) == 3 else 8192
     with tempfile.TemporaryDirectory() as folder:
-        written = os.path.join(folder, "parallel")
-        compiler = os.environ.get("CC", "cc")
-        subprocess.run([compiler, "-O3", "-march=x86-64-v2", "-o", written, os.path.join(HERE, "parallel.c")], check=True)
-        by_hand, wanted = measure("C", written, (1,), squares)
+        by_hand, wanted = measure("C", compiled("parallel", folder), (1,), squares)
         proved, said = measure("proved", sys.argv[1], (1, 2, 4), squares)
     print(f"ratio of processor times {proved / by_hand:.2f}, the numbers are {'the same' if said == wanted else 'DIFFERENT'}")
 
