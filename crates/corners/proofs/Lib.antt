@@ -1,3 +1,5 @@
+pub mod LeftOutLaws
+mod LimitLaws
 mod MergeLaws
 pub mod RegionLaws
 mod SignLaws

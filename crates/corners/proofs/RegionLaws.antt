@@ -5,7 +5,7 @@ use Rattle.opc_base.specs.Canonical.{AreCanonical, Precedes}
 use Rattle.opc_base.specs.Plane.{HaveNoOverlap, IsRectWithin, rect_cover}
 use Rattle.opc_base.specs.declared.plane.Corner.{Corner}
 use Rattle.opc_base.specs.declared.plane.Rect.{Rect}
-use Rattle.corners.specs.Windows.{IsCornerIn}
+use Rattle.corners.specs.Windows.{IsCornerIn, LieWithin}
 
 -- ---- rectangles
 
@@ -51,6 +51,5 @@ corner_within most window c within is =
     (omega (arith, ints), omega (arith, ints), is.small)
 
 -- corners in a window lie no further from 0 than the window
-pub corners_within : (most : ℕ) (window : Rect) (corners : List Corner) → IsRectWithin most window → All (IsCornerIn window) corners →
-    All (λ c. (unsigned_abs c.x ≤ most) × (unsigned_abs c.y ≤ most) × (unsigned_abs c.sign ≤ 2)) corners
+pub corners_within : (most : ℕ) (window : Rect) (corners : List Corner) → IsRectWithin most window → All (IsCornerIn window) corners → LieWithin most corners
 corners_within most window corners within each k d below = corner_within most window _ within (each k d below)

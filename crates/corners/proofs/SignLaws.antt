@@ -8,7 +8,7 @@ use Rattle.opc_base.specs.Sums.{sum_each}
 use Rattle.opc_base.specs.declared.plane.Corner.{Corner}
 use Rattle.opc_base.specs.declared.plane.Rect.{Rect}
 use Rattle.corners.specs.Points.{corner_from, quadrants}
-use Rattle.signed_points.specs.Points.{IsAscending, IsSigned, Precedes, SignsWithin}
+use Rattle.signed_points.specs.Points.{IsAscending, IsSigned, PointPrecedes, SignsWithin}
 use Rattle.corners.specs.Windows.{AreInRows, IsCornerIn, Shows, in_window}
 use Rattle.opc_base.specs.Lanes.{AddUpNear}
 use Rattle.signed_points.specs.declared.points.Point.{Point}
@@ -74,7 +74,7 @@ elsewhere_before qx qy px py e (inr left) = let apart = left.1 in grind (arith, 
 here : (x y e : ℤ) → (if int_eq x x && int_eq y y then e else pos 0) ≡ e
 here x y e = grind (arith, ints)
 
-others_add_nothing : (p : Point) (ps : List Point) → All (Precedes p) ps → point_sum (map corner_from ps) p.place p.line ≡ pos 0
+others_add_nothing : (p : Point) (ps : List Point) → All (PointPrecedes p) ps → point_sum (map corner_from ps) p.place p.line ≡ pos 0
 unfolding sum_each
 others_add_nothing p [] after = refl
 others_add_nothing p (q ∷ ps) after =

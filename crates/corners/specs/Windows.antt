@@ -1,5 +1,5 @@
 -- What a window shows of a set of pixels, and its corners.
-use Rattle.std.specs.Prelude.{◌≡◌, ◌≢◌, ◌⊎◌, ℕ, ◌≤◌, ℤ, pos, ◌+ℤ◌, ◌-ℤ◌, ◌≤ℤ◌, ◌<ℤ◌, unsigned_abs, ◌&&◌, List, AllPairs}
+use Rattle.std.specs.Prelude.{◌≡◌, ◌≢◌, ◌⊎◌, ℕ, ◌≤◌, ℤ, pos, ◌+ℤ◌, ◌-ℤ◌, ◌≤ℤ◌, ◌<ℤ◌, unsigned_abs, ◌&&◌, List, All, AllPairs}
 use Rattle.std.specs.Int.{int_max, int_min}
 use Rattle.opc_base.specs.Plane.{PixelSet, rect_cover}
 use Rattle.opc_base.specs.declared.plane.Corner.{Corner}
@@ -21,6 +21,10 @@ pub record IsCornerIn (window : Rect) (c : Corner) : Type 0 where
   pub right : c.x ≤ℤ window.x1
   pub bottom : window.y0 ≤ℤ c.y
   pub top : c.y ≤ℤ window.y1
+
+-- no coordinate of a corner is further than this from 0, and no sign further than 2
+abbrev pub LieWithin : ℕ → List Corner → Type 0
+LieWithin most corners = All (λ c. (unsigned_abs c.x ≤ most) × (unsigned_abs c.y ≤ most) × (unsigned_abs c.sign ≤ 2)) corners
 
 -- by rows from the lowest, each from the left, no two at one point
 abbrev pub AreInRows : List Corner → Type 0

@@ -6,7 +6,7 @@ ghost use Rattle.opc_base.specs.Corners.{point_sum, quadrant_sum, sign_at};
 ghost use Rattle.opc_base.specs.Plane.{HaveNoOverlap, IsRectWithin, cover, indicator, rect_cover};
 ghost use Rattle.corners.specs.Points.{AreCornersFrom, quadrants};
 ghost use Rattle.signed_points.specs.Points.{IsAscending, IsSigned, SignsWithin};
-ghost use Rattle.corners.specs.Windows.{AreInRows, IsCornerIn, Shows, clip, in_window};
+ghost use Rattle.corners.specs.Windows.{AreInRows, IsCornerIn, LieWithin, Shows, clip, in_window};
 
 use crate::points::push_points;
 use opc_base::{Corner, NoMemory, Rect};
@@ -25,6 +25,9 @@ pub fn corners_of(alloc: Global, rects: &[Rect], window: Rect) -> Result<Vec<Cor
 
     // a sign from -2 to 2 that is not 0, within the window
     ensures each { IfOk result (λ corners. All (IsCornerIn window) corners.items) }
+
+    // however large the window is, no corner lies further out than some rectangle
+    ensures within { IfOk result (λ corners. (most : ℕ) → All (IsRectWithin most) rects.now → LieWithin most corners.items) }
 
     // exactly the signs of the set in the window
     ensures signs { IfOk result (λ corners. (x y : ℤ) → point_sum corners.items x y ≡ sign_at (in_window window (cover rects.now)) x y) }

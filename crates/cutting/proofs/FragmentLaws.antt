@@ -17,12 +17,13 @@ use Rattle.outline_model.specs.declared.fragment.Join.TheVariants.{Cut, Corner}
 use Rattle.outline_model.specs.declared.piece.EdgePiece.{EdgePiece}
 use Rattle.outline_model.specs.Fragmentation.{AreFragments, ArePieces, piece_of}
 use Rattle.outline_model.specs.Lengths.{AreRules}
-use Rattle.outline_model.specs.Limits.{IsFragmentList, IsPlacedFragment}
+use Rattle.outline_model.specs.Limits.{IsFragmentList}
+use Rattle.outline_model.specs.MaskRange.{IsInMask, mask_limit}
 use Rattle.outline_model.specs.Outline.{Point, finish_join, fragment_at, is_rising, is_vertical, point_on, start_join}
-use Rattle.outline_model.specs.Ranges.{IsPlaced}
+use Rattle.outline_model.specs.Ranges.{IsWithin}
 use Rattle.outline_model.specs.Target.{IsBoundary, IsJoined, Names, finish_point, opens, start_point}
 use Rattle.outline_model.proofs.TargetJoins.{finish_leads_on, meets_side, start_leads_back}
-use Rattle.edges.specs.Disjoint.{AreApart, AreSolidAndApart, IsSolid}
+use Rattle.edges.specs.Disjoint.{AreApart, AreSolidAndApart}
 use Rattle.cutting.specs.Ends.{AreJoinedPieces, IsMet, JoinsAt, end_of, piece_at}
 use Rattle.cutting.proofs.BoundaryLaws.{boundary_of_pieces, outline_of_fragments}
 use Rattle.cutting.proofs.EdgeBounds.{faced_within}
@@ -37,9 +38,9 @@ rules_hold rules = record {
   line_end = rules.line_end_in_range;
 }
 
-placed : (z : ℤ) → unsigned_abs z ≤ 1048000 → IsPlaced z
-placed (pos n) h = (omega (arith, ints), omega (arith, ints))
-placed (negsuc n) h = (omega (arith, ints), omega (arith, ints))
+in_mask : (limit : ℕ) (z : ℤ) → limit ≤ mask_limit → unsigned_abs z ≤ limit → IsInMask z
+in_mask limit (pos n) most h = (omega (arith, ints), omega (arith, ints))
+in_mask limit (negsuc n) most h = (omega (arith, ints), omega (arith, ints))
 
 apart : (r s : Rect) → Precedes r s → AreApart r s
 apart r s order = by (int_lt s.y0 r.y1) refl
@@ -49,18 +50,18 @@ apart r s order = by (int_lt s.y0 r.y1) refl
     by false e = inr (inl (omega (arith, ints)))
 
 -- the rectangles of a region do not overlap
-pub canonical_apart : (rects : List Rect) → AreCanonical rects → All (IsRectWithin 1048000) rects → AreSolidAndApart rects
-canonical_apart rects canonical within = record {
+pub canonical_apart : (limit : ℕ) (rects : List Rect) → limit ≤ mask_limit → AreCanonical rects → All (IsRectWithin limit) rects → AreSolidAndApart rects
+canonical_apart limit rects most canonical within = record {
   solid = λ k d below.
       let solid = canonical.solid k d below in
       let near = within k d below in
       record {
         wide = solid.wide;
         high = solid.high;
-        left = placed _ near.0;
-        right = placed _ near.2;
-        bottom = placed _ near.1;
-        top = placed _ near.3;
+        left = in_mask limit _ most near.0;
+        right = in_mask limit _ most near.2;
+        bottom = in_mask limit _ most near.1;
+        top = in_mask limit _ most near.3;
       };
   apart = λ j k d less below. apart _ _ (canonical.pairs j k d less below);
 }
@@ -106,10 +107,10 @@ meets_start f g p q a b e = sym (ap (end_of true) a) ∙ starts_pair f ∙ ap pa
 -- ---- pieces before they are joined
 
 -- the piece as a fragment that is joined to nothing
-abbrev unjoined : EdgePiece → Fragment
+abbrev pub unjoined : EdgePiece → Fragment
 unjoined p = record { side = p.side; edge = p.line; lo = p.lo; hi = p.hi; low = Cut 0; high = Cut 0 }
 
-unjoined-map : (ps : List EdgePiece) → map piece_of (map unjoined ps) ≡ ps
+pub unjoined-map : (ps : List EdgePiece) → map piece_of (map unjoined ps) ≡ ps
 unjoined-map [] = refl
 unjoined-map (p ∷ ps) = ap (λ t. p ∷ t) (unjoined-map ps)
 
@@ -144,12 +145,11 @@ beside inside ps j k boundary j_below k_below e =
     subst (λ p. AreBeside (piece_at ps j) p) (unjoined_at ps k) (subst (λ q. AreBeside q (piece_of (fragment_at fs k))) (unjoined_at ps j) meets)
 
 -- Each piece of a region without corner touches is met at its finish, and at its start.
-pub met_next : (inside : PixelSet) (rules : CutRules) (ps : List EdgePiece) (k : ℕ) → AreRules rules → ((x y : ℤ) → ¬ IsCornerTouch inside x y)
-    → ArePieces inside rules ps → k < length ps → IsMet true ps (piece_at ps k)
-met_next inside rules ps k are none pieces below =
+pub met_next_on : (inside : PixelSet) (ps : List EdgePiece) (k : ℕ) → ((x y : ℤ) → ¬ IsCornerTouch inside x y)
+    → IsBoundary inside (map unjoined ps) → k < length ps → IsMet true ps (piece_at ps k)
+met_next_on inside ps k none boundary below =
     let fs : List Fragment = map unjoined ps in
     let few : length fs ≡ length ps = length-map ps unjoined in
-    let boundary = unjoined_boundary inside rules ps are pieces in
     let found = finish_leads_on inside fs k boundary none (omega arith) in
     record {
       number = found.0;
@@ -158,12 +158,11 @@ met_next inside rules ps k are none pieces below =
       sides = λ j j_below e. beside inside ps j k boundary j_below below e;
     }
 
-pub met_previous : (inside : PixelSet) (rules : CutRules) (ps : List EdgePiece) (k : ℕ) → AreRules rules → ((x y : ℤ) → ¬ IsCornerTouch inside x y)
-    → ArePieces inside rules ps → k < length ps → IsMet false ps (piece_at ps k)
-met_previous inside rules ps k are none pieces below =
+pub met_previous_on : (inside : PixelSet) (ps : List EdgePiece) (k : ℕ) → ((x y : ℤ) → ¬ IsCornerTouch inside x y)
+    → IsBoundary inside (map unjoined ps) → k < length ps → IsMet false ps (piece_at ps k)
+met_previous_on inside ps k none boundary below =
     let fs : List Fragment = map unjoined ps in
     let few : length fs ≡ length ps = length-map ps unjoined in
-    let boundary = unjoined_boundary inside rules ps are pieces in
     let found = start_leads_back inside fs k boundary none (omega arith) in
     record {
       number = found.0;
@@ -172,16 +171,24 @@ met_previous inside rules ps k are none pieces below =
       sides = λ j j_below e. beside_back (piece_at ps k) (piece_at ps j) (beside inside ps k j boundary below j_below (sym e));
     }
 
+pub met_next : (inside : PixelSet) (rules : CutRules) (ps : List EdgePiece) (k : ℕ) → AreRules rules → ((x y : ℤ) → ¬ IsCornerTouch inside x y)
+    → ArePieces inside rules ps → k < length ps → IsMet true ps (piece_at ps k)
+met_next inside rules ps k are none pieces below = met_next_on inside ps k none (unjoined_boundary inside rules ps are pieces) below
+
+pub met_previous : (inside : PixelSet) (rules : CutRules) (ps : List EdgePiece) (k : ℕ) → AreRules rules → ((x y : ℤ) → ¬ IsCornerTouch inside x y)
+    → ArePieces inside rules ps → k < length ps → IsMet false ps (piece_at ps k)
+met_previous inside rules ps k are none pieces below = met_previous_on inside ps k none (unjoined_boundary inside rules ps are pieces) below
+
 -- ---- pieces that are joined
 
-joined-map : (ps : List EdgePiece) (fs : List Fragment) → AreJoinedPieces ps (length ps) fs → map piece_of fs ≡ ps
+pub joined-map : (ps : List EdgePiece) (fs : List Fragment) → AreJoinedPieces ps (length ps) fs → map piece_of fs ≡ ps
 joined-map ps fs joined =
     ext_get_or (record { side = Left; line = pos 0; lo = pos 0; hi = pos 0 }) (map piece_of fs) ps (length-map fs piece_of ∙ joined.count)
     (λ i below.
     get_or-map piece_of fs i (record { side = Left; edge = pos 0; lo = pos 0; hi = pos 0; low = Cut 0; high = Cut 0 })
     ∙ (joined.each i (let a = length-map fs piece_of in let b = joined.count in omega arith)).piece)
 
-joined_ends : (ps : List EdgePiece) (fs : List Fragment) → AreJoinedPieces ps (length ps) fs → IsJoined fs
+pub joined_ends : (ps : List EdgePiece) (fs : List Fragment) → AreJoinedPieces ps (length ps) fs → IsJoined fs
 joined_ends ps fs joined = record {
   finishes = λ k below. finishes k below (finish_join (fragment_at fs k)) (joined.each k (inside k below)).finish;
   starts = λ k below. starts k below (start_join (fragment_at fs k)) (joined.each k (inside k below)).start;
@@ -229,20 +236,27 @@ fragments_of_joined inside rules ps fs pieces joined = record {
 
 -- ---- what is known of the fragments of a region
 
-placed_fragment : (rects : List Rect) (fs : List Fragment) (k : ℕ) → All IsSolid rects → IsBoundary (cover rects) fs → k < length fs
-    → IsPlacedFragment (fragment_at fs k)
-placed_fragment rects fs k solid boundary below = by (is_vertical f.side) refl
+-- a fragment within this limit
+pub record IsFragmentWithin (limit : ℕ) (f : Fragment) : Type 0 where
+  pub edge : IsWithin limit f.edge
+  pub lo : IsWithin limit f.lo
+  pub hi : IsWithin limit f.hi
+
+-- a fragment on the boundary of rectangles is within their limit
+pub fragment_within : (limit : ℕ) (rects : List Rect) (fs : List Fragment) (k : ℕ) → All (IsRectWithin limit) rects → IsBoundary (cover rects) fs → k < length fs
+    → IsFragmentWithin limit (fragment_at fs k)
+fragment_within limit rects fs k near boundary below = by (is_vertical f.side) refl
   where
     f : Fragment
     f = fragment_at fs k
 
-    by : (v : Bool) → is_vertical f.side ≡ v → IsPlacedFragment f
+    by : (v : Bool) → is_vertical f.side ≡ v → IsFragmentWithin limit f
     by true v =
         let some : f.lo <ℤ f.hi = boundary.some k below in
         let first = boundary.upright k f.edge f.lo below (v, refl, omega (arith, ints), some) in
         let last = boundary.upright k f.edge (f.hi -ℤ pos 1) below (v, refl, omega (arith, ints), omega (arith, ints)) in
-        let a = faced_within true rects (opens f.side) f.edge f.lo solid first.0 first.1 in
-        let b = faced_within true rects (opens f.side) f.edge (f.hi -ℤ pos 1) solid last.0 last.1 in
+        let a = faced_within limit true rects (opens f.side) f.edge f.lo near first.0 first.1 in
+        let b = faced_within limit true rects (opens f.side) f.edge (f.hi -ℤ pos 1) near last.0 last.1 in
         let low = a.1.0 in
         let high = b.1.1 in
         record { edge = a.0; lo = (low, omega (arith, ints)); hi = (omega (arith, ints), omega (arith, ints)) }
@@ -250,8 +264,8 @@ placed_fragment rects fs k solid boundary below = by (is_vertical f.side) refl
         let some : f.lo <ℤ f.hi = boundary.some k below in
         let first = boundary.level k f.lo f.edge below (v, refl, omega (arith, ints), some) in
         let last = boundary.level k (f.hi -ℤ pos 1) f.edge below (v, refl, omega (arith, ints), omega (arith, ints)) in
-        let a = faced_within false rects (opens f.side) f.edge f.lo solid first.0 first.1 in
-        let b = faced_within false rects (opens f.side) f.edge (f.hi -ℤ pos 1) solid last.0 last.1 in
+        let a = faced_within limit false rects (opens f.side) f.edge f.lo near first.0 first.1 in
+        let b = faced_within limit false rects (opens f.side) f.edge (f.hi -ℤ pos 1) near last.0 last.1 in
         let low = a.1.0 in
         let high = b.1.1 in
         record { edge = a.0; lo = (low, omega (arith, ints)); hi = (omega (arith, ints), omega (arith, ints)) }
@@ -261,16 +275,15 @@ pub list_of_fragments : (rects : List Rect) (rules : CutRules) (fs : List Fragme
     → ((x y : ℤ) → ¬ IsCornerTouch (cover rects) x y) → AreFragments (cover rects) rules fs → length fs ≤ 32768
     → IsBoundary (cover rects) fs × IsFragmentList fs
 list_of_fragments rects rules fs canonical within none fragments few =
-    let known = outline_of_fragments (cover rects) rules fs (rules_hold rules) none fragments in
-    let solid = (canonical_apart rects canonical within).solid in (
+    let known = outline_of_fragments (cover rects) rules fs (rules_hold rules) none fragments in (
       known.0,
       record {
         outline = known.1;
         few = few;
         some = known.0.some;
-        edge_within = λ k below. (placed_fragment rects fs k solid known.0 below).edge;
-        lo_within = λ k below. (placed_fragment rects fs k solid known.0 below).lo;
-        hi_within = λ k below. (placed_fragment rects fs k solid known.0 below).hi;
+        edge_within = λ k below. (fragment_within 1048000 rects fs k within known.0 below).edge;
+        lo_within = λ k below. (fragment_within 1048000 rects fs k within known.0 below).lo;
+        hi_within = λ k below. (fragment_within 1048000 rects fs k within known.0 below).hi;
         is_cut = record { rects = rects; rules = rules; canonical = canonical; no_touch = none; fragments = fragments };
       },
     )

@@ -15,7 +15,7 @@ use Rattle.outline_model.specs.declared.piece.EdgePiece.{EdgePiece}
 use Rattle.outline_model.specs.Lengths.{edge_length, end_length, is_whole, inner_length, inner_count, parts, lengths}
 use Rattle.outline_model.specs.Lengths.{AreRules, IsLength}
 use Rattle.cutting.specs.Limits.{IsCuttable}
-use Rattle.outline_model.specs.Ranges.{IsPlaced}
+use Rattle.outline_model.specs.Ranges.{IsInLayout}
 use Rattle.outline_model.specs.Pieces.{laid, pieces_along}
 
 -- ---- sizes
@@ -237,13 +237,13 @@ pieces_along-take_more rules es i d h = rw add-one (by es i h)
 
 -- ---- places, as they are stored
 
-pub lo_is : (z : ℤ) → IsPlaced z → to_z w32 (of_z w32 z) ≡ z
+pub lo_is : (z : ℤ) → IsInLayout z → to_z w32 (of_z w32 z) ≡ z
 lo_is z within = let a = within.0 in let b = within.1 in omega (arith, ints)
 
 stored_is : (z : ℤ) → (negsuc 1047999 ≤ℤ z) × (z ≤ℤ pos 1048000) → to_z w32 (of_z w32 z) ≡ z
 stored_is z within = let a = within.0 in let b = within.1 in omega (arith, ints)
 
-pub place_is : (from : ℤ) (i count n : ℕ) → IsPlaced from → IsPlaced (from +ℤ pos (count * n)) → i < count
+pub place_is : (from : ℤ) (i count n : ℕ) → IsInLayout from → IsInLayout (from +ℤ pos (count * n)) → i < count
     → to_z w32 (of_z w32 (to_z w32 (of_z w32 from) +ℤ to_z w32 (i * n))) ≡ to_z w32 (of_z w32 from) +ℤ pos (i * n)
 place_is from i count n placed end less =
     let steps = steps_within i count n less in
@@ -254,7 +254,7 @@ place_is from i count n placed end less =
         → to_z w32 (of_z w32 (to_z w32 (of_z w32 from) +ℤ to_z w32 p)) ≡ to_z w32 (of_z w32 from) +ℤ pos p
     at p q upto c d = let a = placed.0 in let b = placed.1 in let e = stored_is from placed in omega (arith, ints)
 
-pub hi_is : (from : ℤ) (i count n : ℕ) → IsPlaced from → IsPlaced (from +ℤ pos (count * n)) → i < count
+pub hi_is : (from : ℤ) (i count n : ℕ) → IsInLayout from → IsInLayout (from +ℤ pos (count * n)) → i < count
     → to_z w32 (of_z w32 (to_z w32 (of_z w32 (to_z w32 (of_z w32 from) +ℤ to_z w32 (i * n))) +ℤ to_z w32 n)) ≡ (to_z w32 (of_z w32 from) +ℤ pos (i * n)) +ℤ pos n
 hi_is from i count n placed end less =
     let steps = steps_within i count n less in
@@ -266,7 +266,7 @@ hi_is from i count n placed end less =
         → to_z w32 (of_z w32 ((to_z w32 (of_z w32 from) +ℤ pos p) +ℤ to_z w32 n)) ≡ (to_z w32 (of_z w32 from) +ℤ pos p) +ℤ pos n
     at p q upto e c d = let a = placed.0 in let b = placed.1 in omega (arith, ints)
 
-pub hi_fits : (from : ℤ) (i count n : ℕ) → IsPlaced from → IsPlaced (from +ℤ pos (count * n)) → i < count
+pub hi_fits : (from : ℤ) (i count n : ℕ) → IsInLayout from → IsInLayout (from +ℤ pos (count * n)) → i < count
     → SFits w32 (to_z w32 (of_z w32 (to_z w32 (of_z w32 from) +ℤ to_z w32 (i * n))) +ℤ to_z w32 n)
 hi_fits from i count n placed end less =
     let steps = steps_within i count n less in
@@ -278,8 +278,8 @@ hi_fits from i count n placed end less =
         → SFits w32 ((to_z w32 (of_z w32 from) +ℤ pos p) +ℤ to_z w32 n)
     at p q upto e c d = let a = placed.0 in let b = placed.1 in omega (arith, ints)
 
-pub middle_facts : (from middle : ℤ) (a b total : ℕ) → IsPlaced from → IsPlaced (from +ℤ pos total) → a + b ≡ total → middle ≡ to_z w32 (of_z w32 from) +ℤ pos a
-    → (to_z w32 (of_z w32 middle) ≡ from +ℤ pos a) × IsPlaced (to_z w32 (of_z w32 middle) +ℤ pos b) × (to_z w32 (of_z w32 middle) +ℤ pos b ≡ from +ℤ pos total)
+pub middle_facts : (from middle : ℤ) (a b total : ℕ) → IsInLayout from → IsInLayout (from +ℤ pos total) → a + b ≡ total → middle ≡ to_z w32 (of_z w32 from) +ℤ pos a
+    → (to_z w32 (of_z w32 middle) ≡ from +ℤ pos a) × IsInLayout (to_z w32 (of_z w32 middle) +ℤ pos b) × (to_z w32 (of_z w32 middle) +ℤ pos b ≡ from +ℤ pos total)
 middle_facts from middle a b total placed end sum is =
     let from_is = stored_is from placed in
     let low = placed.0 in
@@ -293,7 +293,7 @@ middle_facts from middle a b total placed end sum is =
     let stored_at : to_z w32 (of_z w32 middle) ≡ from +ℤ pos a = middle_is ∙ middle_at in
     (stored_at, (omega (arith, ints), omega (arith, ints)), omega (arith, ints))
 
-pub end_is : (from end' end : ℤ) (total : ℕ) → IsPlaced (from +ℤ pos total) → end' ≡ from +ℤ pos total → end ≡ end' → to_z w32 (of_z w32 end) ≡ from +ℤ pos total
+pub end_is : (from end' end : ℤ) (total : ℕ) → IsInLayout (from +ℤ pos total) → end' ≡ from +ℤ pos total → end ≡ end' → to_z w32 (of_z w32 end) ≡ from +ℤ pos total
 end_is from end' end total placed a b =
     ap (λ z. to_z w32 (of_z w32 z)) (b ∙ a) ∙ stored_is (from +ℤ pos total) placed
 
@@ -302,10 +302,10 @@ pub record AreMeetings (rules : CutRules) (e : Edge) (first last : ℤ) (low inn
   pub from : to_z w32 (of_z w32 e.lo) ≡ e.lo
   pub first_is : to_z w32 (of_z w32 first) ≡ e.lo +ℤ pos (end_length rules e.low_convex)
   pub last_is : last ≡ to_z w32 (of_z w32 first) +ℤ pos inner → to_z w32 (of_z w32 last) ≡ to_z w32 (of_z w32 first) +ℤ pos (inner_length rules e)
-  pub first_placed : IsPlaced (to_z w32 (of_z w32 first))
-  pub inner_placed : IsPlaced (to_z w32 (of_z w32 first) +ℤ pos inner)
-  pub last_placed : last ≡ to_z w32 (of_z w32 first) +ℤ pos inner → IsPlaced (to_z w32 (of_z w32 last))
-  pub end_placed : last ≡ to_z w32 (of_z w32 first) +ℤ pos inner → IsPlaced (to_z w32 (of_z w32 last) +ℤ pos high)
+  pub first_placed : IsInLayout (to_z w32 (of_z w32 first))
+  pub inner_placed : IsInLayout (to_z w32 (of_z w32 first) +ℤ pos inner)
+  pub last_placed : last ≡ to_z w32 (of_z w32 first) +ℤ pos inner → IsInLayout (to_z w32 (of_z w32 last))
+  pub end_placed : last ≡ to_z w32 (of_z w32 first) +ℤ pos inner → IsInLayout (to_z w32 (of_z w32 last) +ℤ pos high)
 
 pub meetings : (rules : CutRules) (e : Edge) (first last : ℤ) (low inner high : ℕ) → IsCuttable e → is_whole rules e ≡ false
     → low ≡ end_length rules e.low_convex → inner ≡ inner_length rules e → high ≡ end_length rules e.high_convex

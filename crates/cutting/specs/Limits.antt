@@ -4,14 +4,14 @@ use Rattle.std.specs.Int.RustNames.{unsigned_abs}
 use Rattle.outline_model.specs.Outline.{is_vertical}
 use Rattle.outline_model.specs.Edges.{EdgePrecedes, edge_at}
 use Rattle.outline_model.specs.declared.edge.Edge.{Edge}
-use Rattle.outline_model.specs.Ranges.{IsPlaced}
+use Rattle.outline_model.specs.Ranges.{IsInLayout}
 
 -- an edge of some length within the limit of a layout
 pub record IsCuttable (e : Edge) : Type 0 where
   pub some : e.lo <ℤ e.hi
-  pub line : IsPlaced e.line
-  pub low : IsPlaced e.lo
-  pub high : IsPlaced e.hi
+  pub line : IsInLayout e.line
+  pub low : IsInLayout e.lo
+  pub high : IsInLayout e.hi
 
 -- vertical edges before horizontal ones, by their lines, and on a line from the low end
 abbrev pub Leads : Edge → Edge → Type 0

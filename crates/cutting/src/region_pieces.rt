@@ -1,10 +1,10 @@
 //! Cuts the edges of the pixels that rectangles cover.
 
-ghost use Rattle.std.specs.Prelude.{◌≤◌, ℤ, IfErr, IfOk, length};
+ghost use Rattle.std.specs.Prelude.{◌≤◌, ℤ, All, IfErr, IfOk, length};
 ghost use Rattle.outline_model.specs.Fragmentation.{ArePieces};
 ghost use Rattle.cutting.specs.Faults.{IsFault};
 ghost use Rattle.outline_model.specs.Lengths.{AreRules};
-ghost use Rattle.opc_base.specs.Plane.{cover};
+ghost use Rattle.opc_base.specs.Plane.{IsRectWithin, cover};
 ghost use Rattle.edges.specs.Disjoint.{AreSolidAndApart};
 ghost use Rattle.opc_base.specs.Runs.{IsCornerTouch};
 
@@ -37,6 +37,7 @@ pub fn find_pieces(
 ) -> Result<Vec<EdgePiece>, CutFault>
     requires rules { AreRules rules.now }
     requires disjoint { AreSolidAndApart rects.now }
+    requires placed { All (IsRectWithin 1048000) rects.now }
     requires no_touch { (x y : ℤ) → ¬ IsCornerTouch (cover rects.now) x y }
     ensures pieces { IfOk result (λ ps. ArePieces (cover rects.now) rules.now ps.items) }
     ensures few { IfOk result (λ ps. length ps.items ≤ 32768) }

@@ -6,7 +6,7 @@ ghost use Rattle.outline_model.specs.Lengths.{edge_length, end_length, inner_cou
 ghost use Rattle.outline_model.specs.Lengths.{AreRules};
 ghost use Rattle.cutting.specs.Limits.{AreSorted, IsCuttable};
 ghost use Rattle.outline_model.specs.Pieces.{laid, pieces_along, pieces_of};
-ghost use Rattle.outline_model.specs.Ranges.{IsPlaced};
+ghost use Rattle.outline_model.specs.Ranges.{IsInLayout};
 
 use opc_base::CutRules;
 use outline_model::{Edge, EdgePiece};
@@ -144,8 +144,8 @@ fn lay_parts(
     count: u32,
 ) -> Result<i32, AllocError>
     requires count { 0 < count }
-    requires from { IsPlaced from }
-    requires to { IsPlaced (from +ℤ pos total) }
+    requires from { IsInLayout from }
+    requires to { IsInLayout (from +ℤ pos total) }
     ensures pieces { OnOk result (pieces.new.items ≡ pieces.old.items ++ laid edge.now.side edge.now.line from (parts total count)) }
     ensures end { IfOk result (λ end. end ≡ from +ℤ pos total) }
 {
@@ -163,8 +163,8 @@ fn lay(
     length: u32,
     count: u32,
 ) -> Result<i32, AllocError>
-    requires from { IsPlaced from }
-    requires to { IsPlaced (from +ℤ pos (count * length)) }
+    requires from { IsInLayout from }
+    requires to { IsInLayout (from +ℤ pos (count * length)) }
     ensures pieces { OnOk result (pieces.new.items ≡ pieces.old.items ++ laid edge.now.side edge.now.line from (replicate count length)) }
     ensures end { IfOk result (λ end. end ≡ from +ℤ pos (count * length)) }
 {

@@ -10,9 +10,9 @@ use Rattle.outline_model.proofs.Pixels.{rect_cover-pairs}
 use Rattle.signed_points.specs.declared.points.Point.{Point}
 use Rattle.opc_base.specs.Plane.{rect_cover, cover}
 use Rattle.outline_model.specs.Edges.{seen}
-use Rattle.outline_model.specs.Ranges.{IsPlaced}
-use Rattle.edges.specs.Disjoint.{IsSolid, AreApart, AreSolidAndApart}
-use Rattle.edges.specs.Corners.{level, bit, rect_change, rect_changes, sign_reached, AreCorners}
+use Rattle.outline_model.specs.MaskRange.{IsInMask}
+use Rattle.edges.specs.Disjoint.{IsSolidInLimit, AreApart, AreSolidAndApart}
+use Rattle.edges.specs.Corners.{level, bit, edge_change, edge_changes, sign_reached, AreCorners}
 use Rattle.signed_points.specs.Points.{SameSums, SignsWithin, IsAscending, IsSigned}
 use Rattle.edges.proofs.MergeLaws.{level-merged, level-push, level-permutation}
 use Rattle.std.proofs.lemmas.List.Elements.{All-push}
@@ -106,13 +106,13 @@ and-swap true false = refl
 and-swap false true = refl
 and-swap false false = refl
 
-pub four_points : (upright : Bool) (r : Rect) (line place : ℤ) → IsSolid r
+pub four_points : (upright : Bool) (r : Rect) (line place : ℤ) → IsSolidInLimit r
     → (first last low high : ℤ)
     → first ≡ (if upright then r.x0 else r.y0) → last ≡ (if upright then r.x1 else r.y1)
     → low ≡ (if upright then r.y0 else r.x0) → high ≡ (if upright then r.y1 else r.x1)
     → (sign_reached (point first low (pos 1)) line place +ℤ sign_reached (point first high (negsuc 0)) line place)
     +ℤ (sign_reached (point last low (negsuc 0)) line place +ℤ sign_reached (point last high (pos 1)) line place)
-    ≡ rect_change upright r line place
+    ≡ edge_change upright r line place
 four_points true r line place solid first last low high a b c d =
     rw (a, b, c, d) (four r.x0 r.x1 r.y0 r.y1 line place solid.wide solid.high
     ∙ ap (λ t. bit t -ℤ bit ((int_le r.x0 (line -ℤ pos 1) && int_lt (line -ℤ pos 1) r.x1) && (int_le r.y0 place && int_lt place r.y1)))
@@ -129,23 +129,23 @@ four_points false r line place solid first last low high a b c d =
 -- ---- all rectangles
 
 rect_changes-take_suc : (upright : Bool) (rs : List Rect) (i : ℕ) (d : Rect) (line place : ℤ) → i < length rs
-    → rect_changes upright (take (suc i) rs) line place ≡ rect_changes upright (take i rs) line place +ℤ rect_change upright (get_or rs i d) line place
-unfolding rect_changes
+    → edge_changes upright (take (suc i) rs) line place ≡ edge_changes upright (take i rs) line place +ℤ edge_change upright (get_or rs i d) line place
+unfolding edge_changes
 rect_changes-take_suc upright [] i d line place h = absurd (omega arith)
 rect_changes-take_suc upright (r ∷ rs) zero d line place h = omega (arith, ints)
 rect_changes-take_suc upright (r ∷ rs) (suc i) d line place h =
     let rest = rect_changes-take_suc upright rs i d line place (omega arith) in omega (arith, ints)
 
 pub rect_changes-take_more : (upright : Bool) (rs : List Rect) (i : ℕ) (d : Rect) (line place : ℤ) → i < length rs
-    → rect_changes upright (take (i + 1) rs) line place ≡ rect_changes upright (take i rs) line place +ℤ rect_change upright (get_or rs i d) line place
+    → edge_changes upright (take (i + 1) rs) line place ≡ edge_changes upright (take i rs) line place +ℤ edge_change upright (get_or rs i d) line place
 rect_changes-take_more upright rs i d line place h = rw add-one (rect_changes-take_suc upright rs i d line place h)
 
-pub rect_changes-nil : (upright : Bool) (line place : ℤ) → rect_changes upright [] line place ≡ pos 0
-unfolding rect_changes
+pub rect_changes-nil : (upright : Bool) (line place : ℤ) → edge_changes upright [] line place ≡ pos 0
+unfolding edge_changes
 rect_changes-nil upright line place = refl
 
-pub rect_changes-all : (upright : Bool) (rs : List Rect) (i : ℕ) (line place : ℤ) → length rs ≤ i → rect_changes upright (take i rs) line place ≡ rect_changes upright rs line place
-rect_changes-all upright rs i line place h = ap (λ t. rect_changes upright t line place) (take_all i rs h)
+pub rect_changes-all : (upright : Bool) (rs : List Rect) (i : ℕ) (line place : ℤ) → length rs ≤ i → edge_changes upright (take i rs) line place ≡ edge_changes upright rs line place
+rect_changes-all upright rs i line place h = ap (λ t. edge_changes upright t line place) (take_all i rs h)
 
 -- a pixel of one rectangle is in no other
 apart_covers : (r s : Rect) (x y : ℤ) → AreApart r s → rect_cover r x y ≡ true → rect_cover s x y ≡ false
@@ -192,18 +192,18 @@ covered_sum-cover (r ∷ rs) x y apart =
     by true true e f =
         let none = none_covers r rs x y (λ k d below. apart 0 (suc k) d (omega arith) (omega arith)) e in absurd (cc (none, f))
 
-rect_changes-upright : (rs : List Rect) (x y : ℤ) → rect_changes true rs x y ≡ covered_sum rs x y -ℤ covered_sum rs (x -ℤ pos 1) y
-unfolding rect_changes covered_sum
+rect_changes-upright : (rs : List Rect) (x y : ℤ) → edge_changes true rs x y ≡ covered_sum rs x y -ℤ covered_sum rs (x -ℤ pos 1) y
+unfolding edge_changes covered_sum
 rect_changes-upright [] x y = refl
 rect_changes-upright (r ∷ rs) x y = let rest = rect_changes-upright rs x y in omega (arith, ints)
 
-rect_changes-level : (rs : List Rect) (x y : ℤ) → rect_changes false rs y x ≡ covered_sum rs x y -ℤ covered_sum rs x (y -ℤ pos 1)
-unfolding rect_changes covered_sum
+rect_changes-level : (rs : List Rect) (x y : ℤ) → edge_changes false rs y x ≡ covered_sum rs x y -ℤ covered_sum rs x (y -ℤ pos 1)
+unfolding edge_changes covered_sum
 rect_changes-level [] x y = refl
 rect_changes-level (r ∷ rs) x y = let rest = rect_changes-level rs x y in omega (arith, ints)
 
 pub rect_changes-cover : (upright : Bool) (rs : List Rect) (line place : ℤ) → AreSolidAndApart rs
-    → rect_changes upright rs line place ≡ bit (seen upright (cover rs) line place) -ℤ bit (seen upright (cover rs) (line -ℤ pos 1) place)
+    → edge_changes upright rs line place ≡ bit (seen upright (cover rs) line place) -ℤ bit (seen upright (cover rs) (line -ℤ pos 1) place)
 rect_changes-cover true rs line place disjoint =
     let a = rect_changes-upright rs line place in
     let b = covered_sum-cover rs line place disjoint.apart in
@@ -224,7 +224,7 @@ stored z = to_z w32 (of_z w32 z)
 abbrev pub stored_point : ℤ → ℤ → ℤ → Point
 stored_point line place sign = record { line = stored line; place = stored place; sign = sign }
 
-stored_is : (z : ℤ) → IsPlaced z → stored z ≡ z
+stored_is : (z : ℤ) → IsInMask z → stored z ≡ z
 stored_is z within = let a = within.0 in let b = within.1 in omega (arith, ints)
 
 -- the first and last line and place of a rectangle, as met along vertical or horizontal lines
@@ -246,10 +246,10 @@ points_signs ends v0 v1 v2 v3 v4 within e f g h =
     pushed v w c all is unit =
         subst (SignsWithin 1) (sym is) (All-push (λ d. (neg_ℤ (pos 1) ≤ℤ d.sign) × (d.sign ≤ℤ pos 1)) v c all unit)
 
-pub points_levels : (upright : Bool) (r : Rect) (ends : ℤ × ℤ × ℤ × ℤ) (v0 v1 v2 v3 v4 : List Point) (line place : ℤ) → IsSolid r → AreEnds upright r ends
+pub points_levels : (upright : Bool) (r : Rect) (ends : ℤ × ℤ × ℤ × ℤ) (v0 v1 v2 v3 v4 : List Point) (line place : ℤ) → IsSolidInLimit r → AreEnds upright r ends
     → v1 ≡ v0 ++ stored_point ends.0 ends.2 (pos 1) ∷ [] → v2 ≡ v1 ++ stored_point ends.0 ends.3 (negsuc 0) ∷ []
     → v3 ≡ v2 ++ stored_point ends.1 ends.2 (negsuc 0) ∷ [] → v4 ≡ v3 ++ stored_point ends.1 ends.3 (pos 1) ∷ []
-    → level v4 line place ≡ level v0 line place +ℤ rect_change upright r line place
+    → level v4 line place ≡ level v0 line place +ℤ edge_change upright r line place
 points_levels upright r ends v0 v1 v2 v3 v4 line place solid are e f g h = by are
   where
     pushed : (v w : List Point) (c d : Point) → w ≡ v ++ c ∷ [] → c ≡ d → level w line place ≡ level v line place +ℤ sign_reached d line place
@@ -266,26 +266,26 @@ points_levels upright r ends v0 v1 v2 v3 v4 line place solid are e f g h = by ar
         let last = pushed v3 v4 (stored_point ends.1 ends.3 (pos 1)) (point b d (pos 1)) h (ap (λ z. point z (stored ends.3) (pos 1)) q ∙ ap (λ z. point b z (pos 1)) t) in
         omega (arith, ints)
 
-    twice : (z s : ℤ) → z ≡ to_z w32 (of_z w32 s) → IsPlaced s → stored z ≡ s
+    twice : (z s : ℤ) → z ≡ to_z w32 (of_z w32 s) → IsInMask s → stored z ≡ s
     twice z s is within = ap stored (is ∙ stored_is s within) ∙ stored_is s within
 
-    by : AreEnds upright r ends → level v4 line place ≡ level v0 line place +ℤ rect_change upright r line place
+    by : AreEnds upright r ends → level v4 line place ≡ level v0 line place +ℤ edge_change upright r line place
     by (inl k) =
         summed r.x0 r.x1 r.y0 r.y1 (twice ends.0 r.x0 (ap (λ (t : ℤ × ℤ × ℤ × ℤ). t.0) k.1) solid.left) (twice ends.1 r.x1 (ap (λ (t : ℤ × ℤ × ℤ × ℤ). t.1) k.1) solid.right)
         (twice ends.2 r.y0 (ap (λ (t : ℤ × ℤ × ℤ × ℤ). t.2) k.1) solid.bottom) (twice ends.3 r.y1 (ap (λ (t : ℤ × ℤ × ℤ × ℤ). t.3) k.1) solid.top)
         ∙ ap (λ z. level v0 line place +ℤ z) (four_points true r line place solid r.x0 r.x1 r.y0 r.y1 refl refl refl refl)
-        ∙ ap (λ b. level v0 line place +ℤ rect_change b r line place) (sym k.0)
+        ∙ ap (λ b. level v0 line place +ℤ edge_change b r line place) (sym k.0)
     by (inr k) =
         summed r.y0 r.y1 r.x0 r.x1 (twice ends.0 r.y0 (ap (λ (t : ℤ × ℤ × ℤ × ℤ). t.0) k.1) solid.bottom) (twice ends.1 r.y1 (ap (λ (t : ℤ × ℤ × ℤ × ℤ). t.1) k.1) solid.top)
         (twice ends.2 r.x0 (ap (λ (t : ℤ × ℤ × ℤ × ℤ). t.2) k.1) solid.left) (twice ends.3 r.x1 (ap (λ (t : ℤ × ℤ × ℤ × ℤ). t.3) k.1) solid.right)
         ∙ ap (λ z. level v0 line place +ℤ z) (four_points false r line place solid r.y0 r.y1 r.x0 r.x1 refl refl refl refl)
-        ∙ ap (λ b. level v0 line place +ℤ rect_change b r line place) (sym k.0)
+        ∙ ap (λ b. level v0 line place +ℤ edge_change b r line place) (sym k.0)
 
 -- ---- the merged corners
 
 pub corners_of_merged : (upright : Bool) (rects : List Rect) (i : ℕ) (points sorted read : List Point) (result : Result (Vec Point Global) AllocError)
     → AreSolidAndApart rects → length rects ≤ i
-    → ((line place : ℤ) → level points line place ≡ rect_changes upright (take i rects) line place) → IsPermutation points sorted → read ≡ sorted
+    → ((line place : ℤ) → level points line place ≡ edge_changes upright (take i rects) line place) → IsPermutation points sorted → read ≡ sorted
     → IfOk result (λ cs. IsAscending cs.items) → IfOk result (λ cs. IsSigned cs.items) → IfOk result (λ cs. SameSums cs.items read)
     → IfOk result (λ cs. AreCorners (seen upright (cover rects)) cs.items)
 corners_of_merged upright rects i points sorted read (Ok cs) disjoint all levels moved same ascending signed merged = record {

@@ -2,6 +2,7 @@
 use Rattle.std.proofs.Common.{◌≡◌, ◌≢◌, ◌⊎◌, inl, inr, ℕ, suc, ◌+◌, ◌/◌, ◌%◌, ◌<◌, ◌==◌, nat_lt, ℤ, pos, ◌-ℤ◌, ◌≤ℤ◌, ◌<ℤ◌, int_le, int_lt, Bool, true, false, not, ◌&&◌, ◌||◌, if◌then◌else◌, List, [], ◌∷◌, All, length, refl, sym, ◌∙◌, ap, subst, arith}
 use Rattle.std.proofs.lemmas.Int.{ints}
 use Rattle.std.proofs.lemmas.Bool.Decides.{Decides-eqb, Decides-ltb, not_from_Decides}
+use Rattle.outline_model.specs.MaskRange.{mask_limit}
 use Rattle.outline_model.specs.Outline.{is_vertical}
 use Rattle.outline_model.specs.Target.{opens}
 use Rattle.signed_points.specs.declared.points.Point.{Point}
@@ -9,9 +10,9 @@ use Rattle.outline_model.specs.declared.edge.Edge.{Edge}
 use Rattle.opc_base.specs.declared.plane.Rect.{Rect}
 use Rattle.opc_base.specs.Plane.{PixelSet, rect_cover, cover}
 use Rattle.outline_model.specs.Edges.{seen, is_convex}
-use Rattle.edges.specs.Disjoint.{IsSolid}
+use Rattle.edges.specs.Disjoint.{IsSolidInLimit}
 use Rattle.edges.specs.Corners.{level, bit, AreCorners}
-use Rattle.signed_points.specs.Points.{point_at, Precedes}
+use Rattle.signed_points.specs.Points.{point_at, PointPrecedes}
 use Rattle.outline_model.specs.Edges.{edge_at, IsEdge, EdgePrecedes, HasEdges}
 use Rattle.edges.specs.Pairs.{IsAt, HasPoint, side_at, IsBetween, ArePaired}
 use Rattle.edges.proofs.PairLaws.{IsReached, signs, signs-suc, signs-even, signs-odd, sign_is_unit, ReachesFirst, reaches_first, reaches_between, level-first, level_at, level_below, next_on_line, NoTouch, EndsBelow, IsUnit}
@@ -218,7 +219,7 @@ stretch inside cs high i m corners none empty e below =
           ∙ sym here ∙ zero_is);
     }
       where
-        some : Precedes (point_at cs m) (point_at cs (suc m)) → (point_at cs m).place <ℤ (point_at cs (suc m)).place
+        some : PointPrecedes (point_at cs m) (point_at cs (suc m)) → (point_at cs m).place <ℤ (point_at cs (suc m)).place
         some (inl p) = absurd (let a = line_is in omega (arith, ints))
         some (inr p) = p.1
 
@@ -332,7 +333,7 @@ has_edges upright inside across cs others es high corners acrosses same none non
         let j_below : j < length es = omega arith in
         from j_below (corners.ascending (suc (j + j)) (k + k) _ (omega arith) (first_below k below))
       where
-        from : j < length es → Precedes (point_at cs (suc (j + j))) (point_at cs (k + k)) → EdgePrecedes (edge_at es j) (edge_at es k)
+        from : j < length es → PointPrecedes (point_at cs (suc (j + j))) (point_at cs (k + k)) → EdgePrecedes (edge_at es j) (edge_at es k)
         from j_below (inl p) =
             inl (let a = (between j j_below).line in let b = (between k below).line in let c = (st j j_below).line in omega (arith, ints))
         from j_below (inr p) =
@@ -380,10 +381,10 @@ has_edges upright inside across cs others es high corners acrosses same none non
 
 -- ---- the pixels of rectangles
 
-covers_below : (r : Rect) (x y : ℤ) → IsSolid r → (pos 1048000 ≤ℤ x) ⊎ (pos 1048000 ≤ℤ y) → rect_cover r x y ≡ false
+covers_below : (r : Rect) (x y : ℤ) → IsSolidInLimit r → (pos mask_limit ≤ℤ x) ⊎ (pos mask_limit ≤ℤ y) → rect_cover r x y ≡ false
 covers_below r x y solid far = by (int_le r.x0 x) (int_lt x r.x1) (int_le r.y0 y) (int_lt y r.y1) refl refl far
   where
-    by : (a b c d : Bool) → int_lt x r.x1 ≡ b → int_lt y r.y1 ≡ d → (pos 1048000 ≤ℤ x) ⊎ (pos 1048000 ≤ℤ y) → (((a && b) && c) && d) ≡ false
+    by : (a b c d : Bool) → int_lt x r.x1 ≡ b → int_lt y r.y1 ≡ d → (pos mask_limit ≤ℤ x) ⊎ (pos mask_limit ≤ℤ y) → (((a && b) && c) && d) ≡ false
     by true true true true e f (inl h) = absurd (let a = solid.right.1 in omega (arith, ints))
     by true true true true e f (inr h) = absurd (let a = solid.top.1 in omega (arith, ints))
     by false b c d e f h = refl
@@ -391,13 +392,13 @@ covers_below r x y solid far = by (int_le r.x0 x) (int_lt x r.x1) (int_le r.y0 y
     by true true false d e f h = refl
     by true true true false e f h = refl
 
-cover_below : (rs : List Rect) (x y : ℤ) → All IsSolid rs → (pos 1048000 ≤ℤ x) ⊎ (pos 1048000 ≤ℤ y) → cover rs x y ≡ false
+cover_below : (rs : List Rect) (x y : ℤ) → All IsSolidInLimit rs → (pos mask_limit ≤ℤ x) ⊎ (pos mask_limit ≤ℤ y) → cover rs x y ≡ false
 cover_below [] x y solid far = refl
 cover_below (r ∷ rs) x y solid far =
     ap (λ t. t || cover rs x y) (covers_below r x y (solid 0 r (omega arith)) far)
     ∙ cover_below rs x y (λ k d below. solid (suc k) d (omega arith)) far
 
-pub ends_below : (upright : Bool) (rs : List Rect) → All IsSolid rs → EndsBelow (pos 1048000) (seen upright (cover rs))
+pub ends_below : (upright : Bool) (rs : List Rect) → All IsSolidInLimit rs → EndsBelow (pos mask_limit) (seen upright (cover rs))
 ends_below true rs solid line place far = cover_below rs line place solid (inr far)
 ends_below false rs solid line place far = cover_below rs place line solid (inl far)
 

@@ -10,7 +10,7 @@ use Rattle.outline_model.proofs.TargetJoins.{touch_round}
 use Rattle.signed_points.specs.declared.points.Point.{Point}
 use Rattle.opc_base.specs.Plane.{PixelSet}
 use Rattle.edges.specs.Corners.{is_reached, level, bit, AreCorners}
-use Rattle.signed_points.specs.Points.{point_at, Precedes, IsAscending}
+use Rattle.signed_points.specs.Points.{point_at, PointPrecedes, IsAscending}
 
 -- ---- which corners are reached
 
@@ -44,7 +44,7 @@ unreached c line place h = by (is_reached c line place) refl
     by false e = refl
 
 -- an earlier corner is reached earlier
-pub earlier_reached : (c d : Point) (line place : ℤ) → Precedes c d → IsReached d line place → IsReached c line place
+pub earlier_reached : (c d : Point) (line place : ℤ) → PointPrecedes c d → IsReached d line place → IsReached c line place
 earlier_reached c d line place (inl h) (inl r) = inl (omega (arith, ints))
 earlier_reached c d line place (inl h) (inr r) = inl (let at = r.0 in omega (arith, ints))
 earlier_reached c d line place (inr h) (inl r) = inl (let at = h.0 in omega (arith, ints))
@@ -160,7 +160,7 @@ reaches_at cs k ascending below = record { within = omega arith; reached = reach
     beyond : (j : ℕ) → suc k ≤ j → j < length cs → ¬ IsReached (point_at cs j) (point_at cs k).line (point_at cs k).place
     beyond j h l reached = by (ascending k j _ (omega arith) l) reached
       where
-        by : Precedes (point_at cs k) (point_at cs j) → IsReached (point_at cs j) (point_at cs k).line (point_at cs k).place → ⊥
+        by : PointPrecedes (point_at cs k) (point_at cs j) → IsReached (point_at cs j) (point_at cs k).line (point_at cs k).place → ⊥
         by (inl p) (inl r) = omega (arith, ints)
         by (inl p) (inr r) = let a = r.0 in omega (arith, ints)
         by (inr p) (inl r) = let a = p.0 in omega (arith, ints)
@@ -173,7 +173,7 @@ reaches_below cs k ascending below = record { within = omega arith; reached = re
     reached : (j : ℕ) → j < k → IsReached (point_at cs j) (point_at cs k).line ((point_at cs k).place -ℤ pos 1)
     reached j h = by (ascending j k _ h below)
       where
-        by : Precedes (point_at cs j) (point_at cs k) → IsReached (point_at cs j) (point_at cs k).line ((point_at cs k).place -ℤ pos 1)
+        by : PointPrecedes (point_at cs j) (point_at cs k) → IsReached (point_at cs j) (point_at cs k).line ((point_at cs k).place -ℤ pos 1)
         by (inl p) = inl p
         by (inr p) = inr (p.0, (let a = p.1 in omega (arith, ints)))
 
@@ -364,7 +364,7 @@ next_on_line inside cs high i m corners none empty e below = by (nat_lt (suc m) 
         later : line <ℤ (point_at cs (suc m)).line
         later = from (corners.ascending m (suc m) _ (omega arith) inside_list)
           where
-            from : Precedes (point_at cs m) (point_at cs (suc m)) → line <ℤ (point_at cs (suc m)).line
+            from : PointPrecedes (point_at cs m) (point_at cs (suc m)) → line <ℤ (point_at cs (suc m)).line
             from (inl p) = p
             from (inr p) = absurd (other (sym p.0))
 

@@ -6,7 +6,7 @@ use Rattle.std.proofs.lemmas.Bool.Decides.{Decides-eqb, Decides-ltb, not_from_De
 use Rattle.opc_base.specs.declared.plane.Side.{Side}
 use Rattle.signed_points.specs.declared.points.Point.{Point}
 use Rattle.outline_model.specs.declared.edge.Edge.{Edge}
-use Rattle.signed_points.specs.Points.{point_at, Precedes, IsAscending}
+use Rattle.signed_points.specs.Points.{point_at, PointPrecedes, IsAscending}
 use Rattle.outline_model.specs.Edges.{edge_at}
 use Rattle.edges.specs.Pairs.{IsAt, HasPoint, IsAhead, convex_at, side_at, IsBetween}
 
@@ -14,14 +14,14 @@ use Rattle.edges.specs.Pairs.{IsAt, HasPoint, IsAhead, convex_at, side_at, IsBet
 not_after : (cs : List Point) (j k : ℕ) (line place : ℤ) → IsAscending cs → j < k → IsAt cs line place k → IsAhead (point_at cs j) line place
 not_after cs j k line place ascending less at = by (ascending j k _ less at.0)
   where
-    by : Precedes (point_at cs j) (point_at cs k) → IsAhead (point_at cs j) line place
+    by : PointPrecedes (point_at cs j) (point_at cs k) → IsAhead (point_at cs j) line place
     by (inl p) = inl (let a = at.1 in omega (arith, ints))
     by (inr p) = inr (p.0 ∙ at.1, (let a = p.1 in let b = at.2 in omega (arith, ints)))
 
 not_before : (cs : List Point) (j k : ℕ) (line place : ℤ) → IsAscending cs → j < k → k < length cs → IsAt cs line place j → ¬ IsAhead (point_at cs k) line place
 not_before cs j k line place ascending less below at = by (ascending j k _ less below)
   where
-    by : Precedes (point_at cs j) (point_at cs k) → ¬ IsAhead (point_at cs k) line place
+    by : PointPrecedes (point_at cs j) (point_at cs k) → ¬ IsAhead (point_at cs k) line place
     by (inl p) (inl q) = let a = at.1 in omega (arith, ints)
     by (inl p) (inr q) = let a = at.1 in let b = q.0 in omega (arith, ints)
     by (inr p) (inl q) = let a = at.1 in let b = p.0 in omega (arith, ints)

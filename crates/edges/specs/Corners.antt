@@ -28,12 +28,12 @@ pub record AreCorners (inside : PixelSet) (cs : List Point) : Type 0 where
 -- ---- how the corners are found
 
 -- what a rectangle changes across a line
-abbrev pub rect_change : Bool → Rect → ℤ → ℤ → ℤ
-rect_change upright r line place = bit (seen upright (rect_cover r) line place) -ℤ bit (seen upright (rect_cover r) (line -ℤ pos 1) place)
+abbrev pub edge_change : Bool → Rect → ℤ → ℤ → ℤ
+edge_change upright r line place = bit (seen upright (rect_cover r) line place) -ℤ bit (seen upright (rect_cover r) (line -ℤ pos 1) place)
 
-unfoldable pub rect_changes : Bool → List Rect → ℤ → ℤ → ℤ
-rect_changes upright [] line place = pos 0
-rect_changes upright (r ∷ rs) line place = rect_change upright r line place +ℤ rect_changes upright rs line place
+unfoldable pub edge_changes : Bool → List Rect → ℤ → ℤ → ℤ
+edge_changes upright [] line place = pos 0
+edge_changes upright (r ∷ rs) line place = edge_change upright r line place +ℤ edge_changes upright rs line place
 
 abbrev pub sign_reached : Point → ℤ → ℤ → ℤ
 sign_reached c line place = if is_reached c line place then c.sign else pos 0

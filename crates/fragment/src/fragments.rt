@@ -27,7 +27,7 @@ impl Model for Fragments {
 }
 
 impl Fragments {
-    ghost use Rattle.opc_base.specs.Plane.{rect_cover};
+    ghost use Rattle.opc_base.specs.Plane.{IsOrdered, IsRectWithin, rect_cover};
     ghost use Rattle.outline_model.specs.Limits.{IsFragmentList, IsOffsets};
     ghost use Rattle.outline_model.specs.Outline.{IsSweep, lines, low_end, high_end, end_at, joined, count, mask, fragment_at, side_of, site_of, swept, outward};
     ghost use Rattle.outline_model.specs.Ranges.{IsWithin};
@@ -96,6 +96,8 @@ impl Fragments {
         requires offsets { IsOffsets self.now offsets.now }
         ensures low { result.0 ≡ low_end self.now (lines self.now offsets.now) i }
         ensures high { result.1 ≡ high_end self.now (lines self.now offsets.now) i }
+        ensures low_within { IsWithin 1048128 result.0 }
+        ensures high_within { IsWithin 1048128 result.1 }
     {
         let fragment = self.get(i);
         let low = self.end(fragment.low, fragment.lo, offsets);
@@ -106,7 +108,9 @@ impl Fragments {
     fn end(&self, join: Join, place: i32, offsets: &[i32]) -> i32
         requires fragment { joined join < length self.now }
         requires offsets { IsOffsets self.now offsets.now }
-        ensures { result ≡ end_at (lines self.now offsets.now) join place }
+        requires place { IsWithin 1048000 place }
+        ensures end { result ≡ end_at (lines self.now offsets.now) join place }
+        ensures within { IsWithin 1048128 result }
     {
         match join {
             Join::Cut(_) => place,
@@ -138,6 +142,8 @@ impl Fragments {
         ensures rectangle { IfSome result (λ s.
             s.rect ≡ swept self.now (lines self.now offsets.now) i (lines self.now (slice_set offsets.now i to) i)) }
         ensures sign { IfSome result (λ s. s.sign ≡ (if int_lt (slice_index_or offsets.now i (pos 0)) to then pos 1 else negsuc 0)) }
+        ensures order { IfSome result (λ s. IsOrdered s.rect) }
+        ensures near { IfSome result (λ s. IsRectWithin 1048128 s.rect) }
 
         // The count of each pixel of the rectangle changes by the sign, and no other count changes.
         ensures counts { IfSome result (λ s. (x y : ℤ) →

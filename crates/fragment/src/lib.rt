@@ -17,6 +17,7 @@ mod area;
 mod fragments;
 mod near;
 mod region_cut;
+mod shared;
 mod site;
 #[cfg(test)]
 mod tests;

@@ -1,16 +1,16 @@
 //! Where the error of a fragment is measured.
 ghost use Rattle.std.specs.Prelude.{◌≡◌, ◌≤ℤ◌, pos, negsuc, if◌then◌else◌, int_lt};
 ghost use Rattle.outline_model.specs.Outline.{middle_of, sample_place, site_of};
-ghost use Rattle.outline_model.specs.Ranges.{IsPlaced, IsWithin};
+ghost use Rattle.outline_model.specs.Ranges.{IsInLayout, IsWithin};
 
 use opc_base::{Pix, Side};
 use outline_model::{Fragment, is_vertical};
 
 /// The pixel of sample `t`.
 pub fn site_of(fragment: &Fragment, t: i32) -> Pix
-    requires edge { IsPlaced fragment.now.edge }
-    requires lo { IsPlaced fragment.now.lo }
-    requires hi { IsPlaced fragment.now.hi }
+    requires edge { IsInLayout fragment.now.edge }
+    requires lo { IsInLayout fragment.now.lo }
+    requires hi { IsInLayout fragment.now.hi }
     requires ordered { fragment.now.lo ≤ℤ fragment.now.hi }
     requires low { negsuc 15 ≤ℤ t }
     requires high { t ≤ℤ pos 15 }
@@ -35,11 +35,11 @@ pub fn site_of(fragment: &Fragment, t: i32) -> Pix
 
 /// Half way along the fragment on the target, rounded toward its low end.
 fn middle_of(fragment: &Fragment) -> i32
-    requires lo { IsPlaced fragment.now.lo }
-    requires hi { IsPlaced fragment.now.hi }
+    requires lo { IsInLayout fragment.now.lo }
+    requires hi { IsInLayout fragment.now.hi }
     requires ordered { fragment.now.lo ≤ℤ fragment.now.hi }
     ensures middle { result ≡ middle_of fragment.now }
-    ensures within { IsPlaced result }
+    ensures within { IsInLayout result }
 {
     let half = (fragment.hi - fragment.lo).unsigned_abs() / 2;
     fragment.lo + half as i32
@@ -47,7 +47,7 @@ fn middle_of(fragment: &Fragment) -> i32
 
 /// Where sample `t` lies across an edge.
 fn sample_place(side: Side, edge: i32, t: i32) -> i32
-    requires edge { IsPlaced edge }
+    requires edge { IsInLayout edge }
     requires low { negsuc 15 ≤ℤ t }
     requires high { t ≤ℤ pos 15 }
     ensures place { result ≡ sample_place side edge t }

@@ -4,7 +4,7 @@ use Rattle.std.specs.List.{flat_map, range_with_len}
 use Rattle.std.proofs.lemmas.List.{append-nil, map_push}
 use Rattle.std.proofs.lemmas.List.Elements.{Contains-push_cases}
 use Rattle.gds_model.specs.declared.position.Position.{Position}
-use Rattle.gds_model.specs.Placement.{IsWithin}
+use Rattle.gds_model.specs.Placement.{IsPositionWithin}
 use Rattle.gds_model.specs.PlacedList.{moved}
 use Rattle.gds_expand.specs.declared.copies.Base.{Base}
 use Rattle.gds_expand.specs.declared.placement.Placement.{Placement}
@@ -33,7 +33,7 @@ pub adds_none : (base : Base) (steps : List Step) → AddsCopies [] base steps s
 adds_none base steps = record { places = λ inner. sym (append-nil (flat_map (step_places inner) steps)); copies = λ t m there. inl there }
 
 pub adds_one : (maps : List (Position → Position)) (f : Position → Position) (base : Base) (old mid : List Step) (m : Placement) →
-    ((p : Position) → placed m p ≡ f (placed base.placement p)) → ((n : ℕ) → IsWithin n base.placement.shift → IsWithin (2 ^ 34 + n) m.shift) →
+    ((p : Position) → placed m p ≡ f (placed base.placement p)) → ((n : ℕ) → IsPositionWithin n base.placement.shift → IsPositionWithin (2 ^ 34 + n) m.shift) →
     AddsCopies maps base old mid → AddsCopies (maps ++ f ∷ []) base old (mid ++ Copy base.target m ∷ [])
 adds_one maps f base old mid m composed near h = record {
   places = λ inner.
@@ -52,7 +52,7 @@ adds_one maps f base old mid m composed near h = record {
     is_copy t n e =
         let target : t ≡ base.target = cc in
         let same : m ≡ n = cc in
-        record { target = target; near = λ k within. subst (λ (x : Placement). IsWithin (2 ^ 34 + k) x.shift) same (near k within) }
+        record { target = target; near = λ k within. subst (λ (x : Placement). IsPositionWithin (2 ^ 34 + k) x.shift) same (near k within) }
 
 pub adds_both : (first second : List (Position → Position)) (base : Base) (old mid new : List Step) →
     AddsCopies first base old mid → AddsCopies second base mid new → AddsCopies (first ++ second) base old new
@@ -71,7 +71,7 @@ adds_both first second base old mid new h k = record {
 
 -- one more column
 pub adds_column : (g : ℕ → Position → Position) (column : ℕ) (base : Base) (old mid : List Step) (m : Placement) →
-    ((p : Position) → placed m p ≡ g column (placed base.placement p)) → ((n : ℕ) → IsWithin n base.placement.shift → IsWithin (2 ^ 34 + n) m.shift) →
+    ((p : Position) → placed m p ≡ g column (placed base.placement p)) → ((n : ℕ) → IsPositionWithin n base.placement.shift → IsPositionWithin (2 ^ 34 + n) m.shift) →
     AddsCopies (map g (range_with_len 0 column)) base old mid → AddsCopies (map g (range_with_len 0 (column + 1))) base old (mid ++ Copy base.target m ∷ [])
 adds_column g column base old mid m composed near h =
     let last : 0 + column ≡ column = omega arith in

@@ -6,7 +6,7 @@ use Rattle.std.proofs.lemmas.List.{append-nil}
 use Rattle.std.proofs.Math.Path.{fun_ext}
 use Rattle.gds_model.specs.declared.position.Position.{Position}
 use Rattle.gds_model.specs.declared.reference.Reference.{Reference}
-use Rattle.gds_model.specs.Placement.{IsWithin}
+use Rattle.gds_model.specs.Placement.{IsPositionWithin}
 use Rattle.gds_model.specs.PlacedList.{Mapped, copy_maps, moved}
 use Rattle.gds_expand.specs.declared.copies.Base.{Base}
 use Rattle.gds_expand.specs.declared.placement.Placement.{Placement}
@@ -65,8 +65,8 @@ adds_reference r target row old new base from h = record {
 }
 
 -- the base is near where the row's copies are
-pub near_base : (row : List Step) (target : ℕ) (base : Base) → ((t : ℕ) (m : Placement) → Contains row (Copy t m) → IsWithin (2 ^ 61) m.shift) →
-    IsBaseFor row target base → IsWithin (2 ^ 61) base.placement.shift
+pub near_base : (row : List Step) (target : ℕ) (base : Base) → ((t : ℕ) (m : Placement) → Contains row (Copy t m) → IsPositionWithin (2 ^ 61) m.shift) →
+    IsBaseFor row target base → IsPositionWithin (2 ^ 61) base.placement.shift
 near_base row target base near h = elim h.source [
   | inl own ↦
       let x = own.1.x in

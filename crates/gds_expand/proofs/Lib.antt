@@ -18,3 +18,4 @@ pub mod RowRanks
 pub mod SetLemmas
 pub mod StepLemmas
 pub mod StageLemmas
+mod ExpandAnswers

@@ -5,7 +5,7 @@ use Rattle.gds_model.specs.declared.elements.Element.{Element}
 use Rattle.gds_model.specs.declared.elements.Element.TheVariants.{Shape as shape, Reference as reference}
 use Rattle.gds_model.specs.declared.elements.Structure.{Structure}
 use Rattle.gds_model.specs.declared.shape.Shape.{Shape}
-use Rattle.gds_model.specs.Placement.{IsWithin}
+use Rattle.gds_model.specs.Placement.{IsPositionWithin}
 use Rattle.gds_model.specs.PlacedList.{Mapped, placed_by, placed_in}
 use Rattle.gds_model.specs.Reach.{elements_at, Reaches, References}
 use Rattle.gds_model.proofs.PlacedListLaws.{FallsBy, placed_in-same}
@@ -15,7 +15,7 @@ use Rattle.gds_expand.specs.declared.walk.Step.{Step}
 use Rattle.gds_expand.specs.Rows.{IsRow, Names}
 use Rattle.gds_expand.specs.Steps.{Plan, IsRanked, steps_of, step_places}
 use Rattle.gds_expand.proofs.PlanLaws.{Means}
-use Rattle.gds_expand.proofs.WalkLemmas.{IsWithin-le}
+use Rattle.gds_expand.proofs.WalkLemmas.{IsPositionWithin-le}
 
 placed_in-next : (library : List Structure) (chosen : Shape → Bool) (depth s : ℕ) →
     placed_in library chosen (suc depth) s ≡ flat_map (placed_by library chosen (placed_in library chosen depth)) (elements_at library s)
@@ -45,7 +45,7 @@ row_means library chosen plan places s row h means fixed =
 pub record IsRankedCopy (plan : Plan) (rank : ℕ → ℕ) (above t : ℕ) (m : Placement) : Type 0 where
   pub lower : rank t < above
   pub in_range : t < length plan
-  pub near : IsWithin ((above - rank t) * 2 ^ 34) m.shift
+  pub near : IsPositionWithin ((above - rank t) * 2 ^ 34) m.shift
 
 -- a copy of what an earlier row places is of a lower rank, and near enough
 pub ranked_copy : (plan : Plan) (rank : ℕ → ℕ) (u t : ℕ) (m : Placement) (above : ℕ) → IsRanked plan rank → rank u < above → u < length plan →
@@ -58,7 +58,7 @@ ranked_copy plan rank u t m above ranked lower there h = elim h.source [
       record {
         lower = omega (arith, lower, equal);
         in_range = omega (arith, there, same);
-        near = IsWithin-le (2 ^ 34 + 0) ((above - rank t) * 2 ^ 34) m.shift enough (h.copy.near 0 own.1);
+        near = IsPositionWithin-le (2 ^ 34 + 0) ((above - rank t) * 2 ^ 34) m.shift enough (h.copy.near 0 own.1);
       }
   | inr copied ↦
       let below : rank h.base.target < rank u = ranked.lower u h.base.target h.base.placement copied in
@@ -69,7 +69,7 @@ ranked_copy plan rank u t m above ranked lower there h = elim h.source [
       record {
         lower = omega (arith, lower, below, equal);
         in_range = omega (arith, inside, same);
-        near = IsWithin-le (2 ^ 34 + (rank u - rank h.base.target) * 2 ^ 34) ((above - rank t) * 2 ^ 34) m.shift enough
+        near = IsPositionWithin-le (2 ^ 34 + (rank u - rank h.base.target) * 2 ^ 34) ((above - rank t) * 2 ^ 34) m.shift enough
             (h.copy.near ((rank u - rank h.base.target) * 2 ^ 34) (ranked.near u h.base.target h.base.placement copied));
       }
 ]

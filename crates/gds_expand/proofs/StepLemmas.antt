@@ -7,7 +7,7 @@ use Rattle.std.proofs.lemmas.List.{length-set, take_all, take_more}
 use Rattle.std.proofs.lemmas.List.Elements.{All-contains, Contains-append_left, Contains-get_or, Contains-push_cases}
 use Rattle.gds_model.specs.declared.elements.Structure.{Structure}
 use Rattle.gds_model.specs.declared.shape.Shape.{Shape}
-use Rattle.gds_model.specs.Placement.{IsWithin}
+use Rattle.gds_model.specs.Placement.{IsPositionWithin}
 use Rattle.gds_model.specs.PlacedList.{placed_by, placed_list}
 use Rattle.gds_model.specs.Reach.{elements_at, References}
 use Rattle.gds_expand.specs.Bases.{IsCopyFrom}
@@ -22,7 +22,7 @@ use Rattle.gds_expand.proofs.PlanLaws.{IsPlanFor, Means, plan_places-is}
 use Rattle.gds_expand.proofs.RankLemmas.{place_in, place_below, place_most, place_falls, falls_by_place}
 use Rattle.gds_expand.proofs.RowRanks.{IsRankedCopy, named_reference, placed_by_elements, ranked_copy, row_means}
 use Rattle.gds_expand.proofs.SetLemmas.{ranked_set, steps_of-set_same, steps_of-set_other}
-use Rattle.gds_expand.proofs.WalkLemmas.{IsWithin-le}
+use Rattle.gds_expand.proofs.WalkLemmas.{IsPositionWithin-le}
 
 -- the rows of the first structures of the order are made
 pub record IsMade (library : List Structure) (chosen : Shape → Bool) (order : List ℕ) (i : ℕ) (plan : Plan) : Type 0 where
@@ -56,11 +56,11 @@ made_none library chosen order plan sized none = record {
 
 -- the copies of a made plan are near
 pub made_near : (library : List Structure) (chosen : Shape → Bool) (order : List ℕ) (i : ℕ) (plan : Plan) → length order ≤ 65535 →
-    IsMade library chosen order i plan → (s t : ℕ) (m : Placement) → Contains (steps_of plan s) (Copy t m) → IsWithin (2 ^ 61) m.shift
+    IsMade library chosen order i plan → (s t : ℕ) (m : Placement) → Contains (steps_of plan s) (Copy t m) → IsPositionWithin (2 ^ 61) m.shift
 made_near library chosen order i plan few h s t m copied =
     let most : place_in order s ≤ length order = place_most order s in
     let enough : (place_in order s - place_in order t) * 2 ^ 34 ≤ 2 ^ 61 = omega arith in
-    IsWithin-le ((place_in order s - place_in order t) * 2 ^ 34) (2 ^ 61) m.shift enough (h.ranked.near s t m copied)
+    IsPositionWithin-le ((place_in order s - place_in order t) * 2 ^ 34) (2 ^ 61) m.shift enough (h.ranked.near s t m copied)
 
 -- the row of the next structure
 pub made_more : (library : List Structure) (chosen : Shape → Bool) (order : List ℕ) (i v : ℕ) (plan : Plan) (row : Vec Step Global) → IsOrder library order →

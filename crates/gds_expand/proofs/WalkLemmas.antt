@@ -13,7 +13,7 @@ use Rattle.gds_expand.specs.declared.walk.Step.{Step}
 use Rattle.gds_expand.specs.declared.walk.Step.TheVariants.{Shape, Copy}
 use Rattle.gds_expand.specs.declared.walk.Task.{Task}
 use Rattle.gds_expand.specs.declared.walk.PlacedShape.{PlacedShape}
-use Rattle.gds_model.specs.Placement.{IsWithin}
+use Rattle.gds_model.specs.Placement.{IsPositionWithin}
 use Rattle.gds_model.specs.PlacedList.{Mapped, moved}
 use Rattle.gds_expand.specs.Placement.{placed}
 use Rattle.gds_expand.proofs.PlacementLemmas.{same_position}
@@ -144,7 +144,7 @@ moved-same f (x ∷ xs) e = ap₂ (λ y ys. y ∷ ys) (ap (λ k. let y : Mapped 
 pub record IsPlacing (plan : Plan) (rank : ℕ → ℕ) (top : ℕ) (t : Task) : Type 0 where
   pub in_range : t.structure < length plan
   pub lower : rank t.structure ≤ rank top
-  pub near : IsWithin ((rank top - rank t.structure) * 2 ^ 34) t.placement.shift
+  pub near : IsPositionWithin ((rank top - rank t.structure) * 2 ^ 34) t.placement.shift
 
 abbrev pub ArePlacing : Plan → (ℕ → ℕ) → ℕ → List Task → Type 0
 ArePlacing plan rank top [] = Unit {0}
@@ -162,7 +162,7 @@ ArePlacing-pop plan rank top (x ∷ ts) t h = let both = ArePlacing-pop plan ran
 pub record IsWalking (plan : Plan) (rank : ℕ → ℕ) (top : ℕ) (out : List PlacedShape) (tasks : List Task) : Type 0 where
   pub made : map mapped out ++ left_of plan (suc (rank top)) tasks ≡ plan_places plan (suc (rank top)) top
   pub placing : ArePlacing plan rank top tasks
-  pub near : All (λ x. IsWithin (rank top * 2 ^ 34) x.placement.shift) out
+  pub near : All (λ x. IsPositionWithin (rank top * 2 ^ 34) x.placement.shift) out
 
 -- a walk of a plan that is ranked somehow
 pub record IsRankedWalk (plan : Plan) (top : ℕ) (out : List PlacedShape) (tasks : List Task) : Type 0 where
@@ -226,8 +226,8 @@ turns_of-start plan rank depth s m ranked below = ap (λ (xs : List ℕ). 1 + le
 IsPlacing-next : (plan : Plan) (rank : ℕ → ℕ) (top s next : ℕ) (m : Placement) → IsPlacing plan rank top (task s next m) → IsPlacing plan rank top (task s (next + 1) m)
 IsPlacing-next plan rank top s next m h = record { in_range = h.in_range; lower = h.lower; near = h.near }
 
-pub IsWithin-le : (a b : ℕ) (p : Position) → a ≤ b → IsWithin a p → IsWithin b p
-IsWithin-le a b p small h = record { x = omega (arith, h.x); y = omega (arith, h.y) }
+pub IsPositionWithin-le : (a b : ℕ) (p : Position) → a ≤ b → IsPositionWithin a p → IsPositionWithin b p
+IsPositionWithin-le a b p small h = record { x = omega (arith, h.x); y = omega (arith, h.y) }
 
 -- a structure is done with
 pub ends_task : (plan : Plan) (rank : ℕ → ℕ) (top s next : ℕ) (m : Placement) (out : List PlacedShape) (ts : List Task) → length (steps_of plan s) ≤ next →
@@ -259,14 +259,14 @@ places_shape plan rank top s next x m out ts on h =
           ∙ ap (λ xs. map mapped out ++ xs) (sym (left_of-push plan depth ts (task s next m) ∙ ap (λ xs. xs ++ left) (rest_of-step plan depth s next m (Shape x) on)))
           ∙ h.made;
       placing = ArePlacing-push plan rank top ts (task s (next + 1) m) popped.0 (IsPlacing-next plan rank top s next m popped.1);
-      near = All-push (λ x. IsWithin (rank top * 2 ^ 34) x.placement.shift) out (placed_shape x m) h.near
-          (let small : (rank top - rank s) * 2 ^ 34 ≤ rank top * 2 ^ 34 = omega arith in IsWithin-le _ _ m.shift small popped.1.near);
+      near = All-push (λ x. IsPositionWithin (rank top * 2 ^ 34) x.placement.shift) out (placed_shape x m) h.near
+          (let small : (rank top - rank s) * 2 ^ 34 ≤ rank top * 2 ^ 34 = omega arith in IsPositionWithin-le _ _ m.shift small popped.1.near);
     }
 
 -- a copy is entered
 pub enters_copy : (plan : Plan) (rank : ℕ → ℕ) (top s next t : ℕ) (m inner both : Placement) (out : List PlacedShape) (ts : List Task) → IsRanked plan rank →
     GoesOn plan s next (Copy t inner) → ((p : Position) → placed both p ≡ placed m (placed inner p)) →
-    ((n k : ℕ) → IsWithin n m.shift → IsWithin k inner.shift → IsWithin (n + k) both.shift) →
+    ((n k : ℕ) → IsPositionWithin n m.shift → IsPositionWithin k inner.shift → IsPositionWithin (n + k) both.shift) →
     IsWalking plan rank top out (ts ++ task s next m ∷ []) →
     IsWalking plan rank top out ((ts ++ task s (next + 1) m ∷ []) ++ task t 0 both ∷ [])
 enters_copy plan rank top s next t m inner both out ts ranked on composed bound h =
@@ -295,7 +295,7 @@ enters_copy plan rank top s next t m inner both out ts ranked on composed bound 
           (record {
             in_range = ranked.in_range s t inner on.there;
             lower = low';
-            near = IsWithin-le _ _ both.shift grows (bound _ _ popped.1.near (ranked.near s t inner on.there));
+            near = IsPositionWithin-le _ _ both.shift grows (bound _ _ popped.1.near (ranked.near s t inner on.there));
           });
       near = h.near;
     }
@@ -344,7 +344,7 @@ starts_walk plan rank top m ranked there still = record {
     }),
     tt,
   );
-  near = All-nil (λ x. IsWithin (rank top * 2 ^ 34) x.placement.shift);
+  near = All-nil (λ x. IsPositionWithin (rank top * 2 ^ 34) x.placement.shift);
 }
 
 pub ends_walk : (plan : Plan) (rank : ℕ → ℕ) (top : ℕ) (out : List PlacedShape) (depth : ℕ) → IsRanked plan rank → rank top < depth →
@@ -369,18 +369,18 @@ pub last_placing : (plan : Plan) (rank : ℕ → ℕ) (top : ℕ) (out : List Pl
 last_placing plan rank top out tasks ts t e h = (ArePlacing-pop plan rank top ts t (with_last plan rank top out tasks ts t e h).placing).1
 
 -- the shift of a task leaves room for one more
-pub near_task : (plan : Plan) (rank : ℕ → ℕ) (top : ℕ) (t : Task) → rank top < 2 ^ 16 → IsPlacing plan rank top t → IsWithin (2 ^ 61) t.placement.shift
+pub near_task : (plan : Plan) (rank : ℕ → ℕ) (top : ℕ) (t : Task) → rank top < 2 ^ 16 → IsPlacing plan rank top t → IsPositionWithin (2 ^ 61) t.placement.shift
 near_task plan rank top t deep h =
     let small : (rank top - rank t.structure) * 2 ^ 34 ≤ 2 ^ 61 = omega arith in
-    IsWithin-le ((rank top - rank t.structure) * 2 ^ 34) (2 ^ 61) t.placement.shift small h.near
+    IsPositionWithin-le ((rank top - rank t.structure) * 2 ^ 34) (2 ^ 61) t.placement.shift small h.near
 
 pub starts_walk_from : (plan : Plan) (rank : ℕ → ℕ) (top : ℕ) (m : Placement) (out : List PlacedShape) (none tasks : List Task) → out ≡ [] → none ≡ [] →
     tasks ≡ none ++ task top 0 m ∷ [] → IsRanked plan rank → top < length plan → unmoved m → IsWalking plan rank top out tasks
 starts_walk_from plan rank top m out none tasks no_shape no_task is ranked there still =
     rw (no_shape, is, no_task) (starts_walk plan rank top m ranked there still)
 
-pub ends_near : (rank : ℕ → ℕ) (top : ℕ) (out : List PlacedShape) → rank top < 2 ^ 16 → All (λ x. IsWithin (rank top * 2 ^ 34) x.placement.shift) out →
-    All (λ x. IsWithin (2 ^ 50) x.placement.shift) out
+pub ends_near : (rank : ℕ → ℕ) (top : ℕ) (out : List PlacedShape) → rank top < 2 ^ 16 → All (λ x. IsPositionWithin (rank top * 2 ^ 34) x.placement.shift) out →
+    All (λ x. IsPositionWithin (2 ^ 50) x.placement.shift) out
 ends_near rank top out deep h =
     let small : rank top * 2 ^ 34 ≤ 2 ^ 50 = omega arith in
-    All-weaker (λ x. IsWithin (rank top * 2 ^ 34) x.placement.shift) (λ x. IsWithin (2 ^ 50) x.placement.shift) (λ x near. IsWithin-le _ _ x.placement.shift small near) out h
+    All-weaker (λ x. IsPositionWithin (rank top * 2 ^ 34) x.placement.shift) (λ x. IsPositionWithin (2 ^ 50) x.placement.shift) (λ x near. IsPositionWithin-le _ _ x.placement.shift small near) out h

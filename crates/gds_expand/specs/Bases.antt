@@ -2,7 +2,7 @@
 use Rattle.std.specs.Prelude.{◌≡◌, ℕ, ◌⊎◌, List, ◌++◌, Contains}
 use Rattle.std.specs.List.{flat_map}
 use Rattle.gds_model.specs.declared.reference.Reference.{Reference}
-use Rattle.gds_model.specs.Placement.{IsWithin}
+use Rattle.gds_model.specs.Placement.{IsPositionWithin}
 use Rattle.gds_model.specs.PlacedList.{Mapped, copy_maps, moved}
 use Rattle.gds_expand.specs.declared.copies.Base.{Base}
 use Rattle.gds_expand.specs.declared.placement.Placement.{Placement}
@@ -13,7 +13,7 @@ use Rattle.gds_expand.specs.Steps.{step_places}
 
 -- the base is the structure where it is, or a copy in its row
 abbrev pub IsFrom : List Step → ℕ → Base → Type 0
-IsFrom row target base = ((base.target ≡ target) × IsWithin 0 base.placement.shift) ⊎ Contains row (Copy base.target base.placement)
+IsFrom row target base = ((base.target ≡ target) × IsPositionWithin 0 base.placement.shift) ⊎ Contains row (Copy base.target base.placement)
 
 -- it places what the structure places, where the row does
 pub record IsBaseFor (row : List Step) (target : ℕ) (base : Base) : Type 0 where

@@ -2,7 +2,7 @@
 use Rattle.std.specs.Prelude.{◌≡◌, ℕ, ◌+◌, ◌^◌, ◌⊎◌, List, ◌++◌, Contains}
 use Rattle.std.specs.List.{flat_map}
 use Rattle.gds_model.specs.declared.position.Position.{Position}
-use Rattle.gds_model.specs.Placement.{IsWithin}
+use Rattle.gds_model.specs.Placement.{IsPositionWithin}
 use Rattle.gds_model.specs.PlacedList.{Mapped, moved}
 use Rattle.gds_expand.specs.declared.copies.Base.{Base}
 use Rattle.gds_expand.specs.declared.placement.Placement.{Placement}
@@ -18,7 +18,7 @@ base_places inner base = moved (placed base.placement) (inner base.target)
 -- a copy of the base's structure, not far from where the base has it
 pub record IsCopyOf (base : Base) (t : ℕ) (m : Placement) : Type 0 where
   pub target : t ≡ base.target
-  pub near : (n : ℕ) → IsWithin n base.placement.shift → IsWithin (2 ^ 34 + n) m.shift
+  pub near : (n : ℕ) → IsPositionWithin n base.placement.shift → IsPositionWithin (2 ^ 34 + n) m.shift
 
 -- the new steps are the old ones and, by these maps, copies of what the base places
 pub record AddsCopies (maps : List (Position → Position)) (base : Base) (old new : List Step) : Type 0 where

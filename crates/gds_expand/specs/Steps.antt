@@ -2,7 +2,7 @@
 use Rattle.std.specs.Prelude.{ℕ, zero, suc, ◌-◌, ◌*◌, ◌^◌, ◌<◌, List, [], ◌∷◌, length, Contains, Vec}
 use Rattle.std.specs.List.{flat_map}
 use Rattle.std.specs.declared.alloc.Global.{Global}
-use Rattle.gds_model.specs.Placement.{IsWithin}
+use Rattle.gds_model.specs.Placement.{IsPositionWithin}
 use Rattle.gds_model.specs.PlacedList.{Mapped, moved}
 use Rattle.gds_expand.specs.declared.placement.Placement.{Placement}
 use Rattle.gds_expand.specs.declared.walk.Step.{Step}
@@ -34,7 +34,7 @@ plan_places plan (suc depth) s = flat_map (step_places (plan_places plan depth))
 pub record IsRanked (plan : Plan) (rank : ℕ → ℕ) : Type 0 where
   pub lower : (s t : ℕ) (m : Placement) → Contains (steps_of plan s) (Copy t m) → rank t < rank s
   pub in_range : (s t : ℕ) (m : Placement) → Contains (steps_of plan s) (Copy t m) → t < length plan
-  pub near : (s t : ℕ) (m : Placement) → Contains (steps_of plan s) (Copy t m) → IsWithin ((rank s - rank t) * 2 ^ 34) m.shift
+  pub near : (s t : ℕ) (m : Placement) → Contains (steps_of plan s) (Copy t m) → IsPositionWithin ((rank s - rank t) * 2 ^ 34) m.shift
 
 -- a shape, and where its chain puts its points
 abbrev pub mapped : PlacedShape → Mapped

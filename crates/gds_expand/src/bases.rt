@@ -3,7 +3,7 @@
 ghost use Rattle.std.specs.Prelude.{◌≡◌, ℕ, ◌^◌, None, List, [], ◌∷◌, Contains, OnOk};
 ghost use Rattle.gds_expand.specs.declared.walk.Step.{Step as StepRead};
 ghost use Rattle.gds_model.specs.PlaceFaults.{own_fault};
-ghost use Rattle.gds_model.specs.Placement.{IsWithin};
+ghost use Rattle.gds_model.specs.Placement.{IsPositionWithin};
 ghost use Rattle.gds_expand.specs.declared.placement.Placement.{Placement as PlacementRead};
 ghost use Rattle.gds_expand.specs.declared.walk.Step.TheVariants.{Copy};
 ghost use Rattle.gds_expand.specs.Bases.{AddsReference, IsBaseFor};
@@ -59,7 +59,7 @@ pub(crate) fn push_reference(
     steps: &mut Vec<Step<'_>>,
 ) -> Result<(), AllocError>
     requires right { own_fault reference.now ≡ None }
-    requires near { (t : ℕ) (m : PlacementRead) → Contains row.now (Copy t m) → IsWithin (2 ^ 61) m.shift }
+    requires near { (t : ℕ) (m : PlacementRead) → Contains row.now (Copy t m) → IsPositionWithin (2 ^ 61) m.shift }
     ensures { OnOk result (AddsReference reference.now target row.now steps.old.items steps.new.items) }
 {
     if row.is_empty() {

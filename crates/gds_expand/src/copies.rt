@@ -4,7 +4,7 @@ ghost use Rattle.std.specs.Prelude.{◌≡◌, ℕ, ◌^◌, ◌<◌, ◌≤◌,
 ghost use Rattle.std.specs.List.{range_with_len};
 ghost use Rattle.gds_model.specs.PlaceFaults.{own_fault};
 ghost use Rattle.gds_model.specs.PlacedList.{columns_of, copy_map, copy_maps, rows_of, shift_at, steps, turns_of};
-ghost use Rattle.gds_model.specs.Placement.{IsWithin};
+ghost use Rattle.gds_model.specs.Placement.{IsPositionWithin};
 ghost use Rattle.gds_expand.specs.Copies.{AddsCopies};
 ghost use Rattle.gds_expand.specs.Placement.{placed};
 
@@ -18,9 +18,9 @@ use std::alloc::AllocError;
 /// So many of the equal steps that a displacement is made of.
 fn steps(number: u16, count: &Count, displacement: &Position) -> Position
     requires number { number ≤ unsigned_abs count.now.steps }
-    requires near { IsWithin (2 ^ 32) displacement.now }
+    requires near { IsPositionWithin (2 ^ 32) displacement.now }
     ensures value { result ≡ steps number count.now.steps displacement.now }
-    ensures near { IsWithin (2 ^ 32) result }
+    ensures near { IsPositionWithin (2 ^ 32) result }
 {
     let (x, y) = (displacement.x / count.steps, displacement.y / count.steps);
     Position {
@@ -36,7 +36,7 @@ fn shift_in(reference: &Reference, grid: &Grid, row: u16, column: u16) -> Positi
     requires row { row ≤ unsigned_abs grid.now.rows }
     requires column { column ≤ unsigned_abs grid.now.columns }
     ensures value { result ≡ shift_at reference.now (Some grid.now) row column }
-    ensures near { IsWithin (2 ^ 34) result }
+    ensures near { IsPositionWithin (2 ^ 34) result }
 {
     let columns = Count {
         steps: i64::from(grid.columns),
@@ -57,7 +57,7 @@ fn shift_at(reference: &Reference, array: Option<Grid>, row: u16, column: u16) -
     requires row { row < unsigned_abs (rows_of array) }
     requires column { column < unsigned_abs (columns_of array) }
     ensures value { result ≡ shift_at reference.now array row column }
-    ensures near { IsWithin (2 ^ 34) result }
+    ensures near { IsPositionWithin (2 ^ 34) result }
 {
     match array {
         None => position_of(point_of(reference, 0)),
@@ -71,7 +71,7 @@ pub(crate) fn copy_placement(reference: &Reference, row: u16, column: u16) -> Pl
     requires row { row < unsigned_abs (rows_of reference.now.array) }
     requires column { column < unsigned_abs (columns_of reference.now.array) }
     ensures value { (p : Position) → placed result p ≡ copy_map reference.now row column p }
-    ensures near { IsWithin (2 ^ 34) result.shift }
+    ensures near { IsPositionWithin (2 ^ 34) result.shift }
 {
     Placement {
         flip: reference.flip,
@@ -98,7 +98,7 @@ fn push_row(
     requires right { own_fault reference.now ≡ None }
     requires in_array { row < unsigned_abs (rows_of reference.now.array) }
     requires columns { columns ≤ unsigned_abs (columns_of reference.now.array) }
-    requires near { IsWithin (2 ^ 61) base.now.placement.shift }
+    requires near { IsPositionWithin (2 ^ 61) base.now.placement.shift }
     ensures { OnOk result (AddsCopies (map (λ column. copy_map reference.now row column) (range_with_len 0 columns)) base.now steps.old.items steps.new.items) }
 {
     for column in 0..columns {
@@ -133,7 +133,7 @@ pub(crate) fn push_copies(
     steps: &mut Vec<Step<'_>>,
 ) -> Result<(), AllocError>
     requires right { own_fault reference.now ≡ None }
-    requires near { IsWithin (2 ^ 61) base.now.placement.shift }
+    requires near { IsPositionWithin (2 ^ 61) base.now.placement.shift }
     ensures { OnOk result (AddsCopies (copy_maps reference.now) base.now steps.old.items steps.new.items) }
 {
     let columns = columns_of(reference.array);

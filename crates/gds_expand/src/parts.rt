@@ -2,6 +2,7 @@
 
 ghost use Rattle.std.specs.Prelude.{◌≡◌, ◌≤◌, ◌*◌, ◌++◌, unsigned_abs, if◌then◌else◌, Bool, IfOk, OnOk, length, map, vec_len, [], ◌∷◌};
 ghost use Rattle.gds_model.specs.PlacedList.{columns_of, is_on, rows_of};
+ghost use Rattle.gds_model.specs.Library.{HasAscendingOffsets};
 ghost use Rattle.gds_model.specs.Reach.{number_of};
 ghost use Rattle.gds_expand.specs.Parts.{parts_by, parts_in};
 ghost use Rattle.gds_expand.specs.Points.{targets_of};
@@ -14,7 +15,8 @@ use std::alloc::{AllocError, Global};
 
 /// The number of the structure with this name.
 pub(crate) fn number_of(library: &Library, name: &Name) -> Option<usize>
-    ensures { result ≡ number_of library.now.structures name.now }
+    ensures number { result ≡ number_of library.now.structures name.now }
+    ensures offsets { HasAscendingOffsets library.now.structures }
 {
     match library.number_of(name) {
         None => None,

@@ -2,7 +2,7 @@
 
 ghost use Rattle.std.specs.Prelude.{◌≡◌, ◌+◌, ◌*◌, ◌^◌, ◌<◌, ◌≤◌, ℤ, pos, unsigned_abs, All, IfOk};
 ghost use Rattle.gds_model.specs.PathRects.{direction_of, end_extension, extension_before, full_width, has_area, is_repeated, is_straight, merged, path_rects, rects_through, segment_rect, straightened};
-ghost use Rattle.gds_model.specs.Placement.{IsWithin};
+ghost use Rattle.gds_model.specs.Placement.{IsPositionWithin};
 
 use gds_model::{Direction, DoubledRect, PathForm, Position};
 use std::alloc::{AllocError, Global};
@@ -113,8 +113,8 @@ fn extension_before(form: &PathForm, rest: &[Position]) -> i64
 
 /// The rectangle of a segment, with twice the width and the extensions.
 fn segment_rect(width: i64, from: Position, before: i64, to: Position, after: i64) -> DoubledRect
-    requires from { IsWithin (2 ^ 51) from }
-    requires to { IsWithin (2 ^ 51) to }
+    requires from { IsPositionWithin (2 ^ 51) from }
+    requires to { IsPositionWithin (2 ^ 51) to }
     requires width { unsigned_abs width ≤ 2 ^ 32 }
     requires before { unsigned_abs before ≤ 2 ^ 32 }
     requires after { unsigned_abs after ≤ 2 ^ 32 }
@@ -156,7 +156,7 @@ fn rects_through(
     form: &PathForm,
     corners: &[Position],
 ) -> Result<Vec<DoubledRect>, AllocError>
-    requires { All (IsWithin (2 ^ 51)) corners.now }
+    requires { All (IsPositionWithin (2 ^ 51)) corners.now }
     ensures { IfOk result (λ rects. rects.items ≡ rects_through form.now corners.now) }
 {
     let mut rects = Vec::new(alloc);
@@ -184,7 +184,7 @@ pub(crate) fn path_rects(
     form: &PathForm,
     points: &[Position],
 ) -> Result<Vec<DoubledRect>, AllocError>
-    requires { All (IsWithin (2 ^ 51)) points.now }
+    requires { All (IsPositionWithin (2 ^ 51)) points.now }
     ensures { IfOk result (λ rects. rects.items ≡ path_rects form.now points.now) }
 {
     let merged = merge(alloc, points)?;

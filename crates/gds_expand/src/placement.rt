@@ -15,14 +15,14 @@ pub(crate) struct Placement {
 
 impl Placement {
     ghost use Rattle.gds_expand.specs.Placement.{placed};
-    ghost use Rattle.gds_model.specs.Placement.{IsWithin};
+    ghost use Rattle.gds_model.specs.Placement.{IsPositionWithin};
 
     /// Where a point of the structure lies.
     pub fn place(&self, point: Position) -> Position
-        requires shift { IsWithin (2 ^ 61) self.now.shift }
-        requires point { IsWithin (2 ^ 61) point }
+        requires shift { IsPositionWithin (2 ^ 61) self.now.shift }
+        requires point { IsPositionWithin (2 ^ 61) point }
         ensures value { result ≡ placed self.now point }
-        ensures bound { (m n : ℕ) → IsWithin m self.now.shift → IsWithin n point → IsWithin (m + n) result }
+        ensures bound { (m n : ℕ) → IsPositionWithin m self.now.shift → IsPositionWithin n point → IsPositionWithin (m + n) result }
     {
         point
             .reflected(self.flip)
@@ -32,10 +32,10 @@ impl Placement {
 
     /// This placement of a structure in which `inner` places another.
     pub fn after(&self, inner: &Placement) -> Placement
-        requires shift { IsWithin (2 ^ 61) self.now.shift }
-        requires inner { IsWithin (2 ^ 61) inner.now.shift }
+        requires shift { IsPositionWithin (2 ^ 61) self.now.shift }
+        requires inner { IsPositionWithin (2 ^ 61) inner.now.shift }
         ensures value { (p : Position) → placed result p ≡ placed self.now (placed inner.now p) }
-        ensures bound { (m n : ℕ) → IsWithin m self.now.shift → IsWithin n inner.now.shift → IsWithin (m + n) result.shift }
+        ensures bound { (m n : ℕ) → IsPositionWithin m self.now.shift → IsPositionWithin n inner.now.shift → IsPositionWithin (m + n) result.shift }
     {
         let turns = if self.flip {
             self.turns + 4 - inner.turns

@@ -2,7 +2,7 @@
 
 ghost use Rattle.std.specs.Prelude.{◌≡◌, ℕ, ◌^◌, All, Contains, IfOk, [], map, vec_len};
 ghost use Rattle.gds_model.specs.PlacedList.{is_on};
-ghost use Rattle.gds_model.specs.Placement.{IsWithin};
+ghost use Rattle.gds_model.specs.Placement.{IsPositionWithin};
 ghost use Rattle.gds_model.specs.PlaceFaults.{chosen_list};
 ghost use Rattle.gds_model.specs.Reach.{elements_at};
 ghost use Rattle.gds_expand.specs.Orders.{IsOrder, IsPlanOf};
@@ -59,7 +59,7 @@ pub(crate) fn chosen_shapes<'a>(
     requires top { Contains order.now top }
     requires right { (s : ℕ) → Contains order.now s → All (IsRight library.now.structures) (elements_at library.now.structures s) }
     ensures chosen { IfOk result (λ shapes. map mapped shapes.items ≡ chosen_list library.now.structures pick.now top) }
-    ensures near { IfOk result (λ shapes. All (λ x. IsWithin (2 ^ 50) x.placement.shift) shapes.items) }
+    ensures near { IfOk result (λ shapes. All (λ x. IsPositionWithin (2 ^ 50) x.placement.shift) shapes.items) }
 {
     let plan = step_plan(alloc, library, pick, order)?;
     placed_shapes(alloc, &plan, top)

@@ -6,7 +6,7 @@ ghost use Rattle.std.specs.Ordering.{int_eq};
 ghost use Rattle.gds_model.specs.Outlines.{position_of};
 ghost use Rattle.gds_model.specs.PlaceFaults.{are_steps, is_regular, is_unit, own_fault};
 ghost use Rattle.gds_model.specs.PlacedList.{displacement, point_of, turns_of};
-ghost use Rattle.gds_model.specs.Placement.{IsWithin};
+ghost use Rattle.gds_model.specs.Placement.{IsPositionWithin};
 
 use crate::shapes::position_of;
 use gds_model::{Grid, PlaceFault, Position, Reference};
@@ -44,7 +44,7 @@ pub(crate) fn point_of(reference: &Reference, i: usize) -> Point
 /// From the first point of an array to another.
 pub(crate) fn displacement(reference: &Reference, i: usize) -> Position
     ensures value { result ≡ displacement reference.now i }
-    ensures near { IsWithin (2 ^ 32) result }
+    ensures near { IsPositionWithin (2 ^ 32) result }
 {
     let from = position_of(point_of(reference, 0));
     let to = position_of(point_of(reference, i));

@@ -5,7 +5,7 @@ ghost use Rattle.gds_model.specs.declared.elements.Structure.{Structure};
 ghost use Rattle.gds_model.specs.declared.shape.Shape.{Shape as ShapeRead};
 ghost use Rattle.gds_model.specs.declared.elements.Element.TheVariants as element_kind;
 ghost use Rattle.gds_model.specs.PlacedList.{is_on};
-ghost use Rattle.gds_model.specs.Placement.{IsWithin};
+ghost use Rattle.gds_model.specs.Placement.{IsPositionWithin};
 ghost use Rattle.gds_expand.specs.declared.placement.Placement.{Placement as PlacementRead};
 ghost use Rattle.gds_expand.specs.declared.walk.Step.TheVariants.{Copy};
 ghost use Rattle.gds_expand.specs.Rows.{AddsElement, IsRight, IsRow};
@@ -42,7 +42,7 @@ fn push_named(
 ) -> Result<(), AllocError>
     requires right { IsRight library.now.structures (element_kind.Reference reference.now) }
     requires sized { length plan.now ≡ length library.now.structures }
-    requires near { (s t : ℕ) (m : PlacementRead) → Contains (steps_of plan.now s) (Copy t m) → IsWithin (2 ^ 61) m.shift }
+    requires near { (s t : ℕ) (m : PlacementRead) → Contains (steps_of plan.now s) (Copy t m) → IsPositionWithin (2 ^ 61) m.shift }
     ensures { OnOk result ((chosen : ShapeRead → Bool) → AddsElement library.now.structures chosen plan.now (element_kind.Reference reference.now) steps.old.items steps.new.items) }
 {
     match number_of(library, &reference.name) {
@@ -61,7 +61,7 @@ fn push_element<'a>(
 ) -> Result<(), AllocError>
     requires right { IsRight library.now.structures element.now }
     requires sized { length plan.now ≡ length library.now.structures }
-    requires near { (s t : ℕ) (m : PlacementRead) → Contains (steps_of plan.now s) (Copy t m) → IsWithin (2 ^ 61) m.shift }
+    requires near { (s t : ℕ) (m : PlacementRead) → Contains (steps_of plan.now s) (Copy t m) → IsPositionWithin (2 ^ 61) m.shift }
     ensures { OnOk result (AddsElement library.now.structures (is_on pick.now.layer pick.now.datatype) plan.now element.now steps.old.items steps.new.items) }
 {
     match element {
@@ -80,7 +80,7 @@ pub(crate) fn row_of<'a>(
 ) -> Result<Vec<Step<'a>>, AllocError>
     requires right { All (IsRight library.now.structures) elements.now }
     requires sized { length plan.now ≡ length library.now.structures }
-    requires near { (s t : ℕ) (m : PlacementRead) → Contains (steps_of plan.now s) (Copy t m) → IsWithin (2 ^ 61) m.shift }
+    requires near { (s t : ℕ) (m : PlacementRead) → Contains (steps_of plan.now s) (Copy t m) → IsPositionWithin (2 ^ 61) m.shift }
     ensures { IfOk result (λ row. IsRow library.now.structures (is_on pick.now.layer pick.now.datatype) plan.now elements.now row.items) }
 {
     let mut row = Vec::new(alloc);

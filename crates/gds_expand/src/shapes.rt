@@ -10,7 +10,7 @@ ghost use Rattle.gds_model.specs.declared.place_fault.PlaceFault.TheVariants as 
 ghost use Rattle.gds_model.specs.Outlines.{outline_of, path_outline, pixel_at, pixels_in, placed_points, position_of};
 ghost use Rattle.gds_model.specs.PathRects.{path_rects};
 ghost use Rattle.gds_model.specs.PlaceFaults.{first_fault, is_closed, is_far, is_off, is_rectilinear, is_round, last_after, of_point, of_rect, path_fault, polygon_fault, rects_fault, shape_fault, wide_path_fault};
-ghost use Rattle.gds_model.specs.Placement.{IsWithin};
+ghost use Rattle.gds_model.specs.Placement.{IsPositionWithin};
 ghost use Rattle.gds_expand.specs.Forms.{form_in};
 ghost use Rattle.gds_expand.specs.Placement.{placed};
 ghost use Rattle.gds_expand.specs.Steps.{mapped};
@@ -32,7 +32,7 @@ struct Side {
 
 pub(crate) fn position_of(point: Point) -> Position
     ensures value { result ≡ position_of point }
-    ensures near { IsWithin (2 ^ 31) result }
+    ensures near { IsPositionWithin (2 ^ 31) result }
 {
     Position {
         x: i64::from(point.x),
@@ -46,9 +46,9 @@ fn place_points(
     points: &[Point],
     placement: &Placement,
 ) -> Result<Vec<Position>, AllocError>
-    requires near { IsWithin (2 ^ 50) placement.now.shift }
+    requires near { IsPositionWithin (2 ^ 50) placement.now.shift }
     ensures value { IfOk result (λ positions. positions.items ≡ placed_points (placed placement.now) points.now) }
-    ensures near { IfOk result (λ positions. All (IsWithin (2 ^ 51)) positions.items) }
+    ensures near { IfOk result (λ positions. All (IsPositionWithin (2 ^ 51)) positions.items) }
 {
     let mut positions = Vec::new(alloc);
     for point in points {
@@ -292,7 +292,7 @@ fn wide_path(
     form: &PathForm,
     points: &[Position],
 ) -> Result<Outline, PlaceFault>
-    requires { All (IsWithin (2 ^ 51)) points.now }
+    requires { All (IsPositionWithin (2 ^ 51)) points.now }
     ensures right { IfOk result (λ outline. wide_path_fault side.now.length offset form.now points.now ≡ None) }
     ensures outline { IfOk result (λ outline. outline ≡ outlines.Path (map (pixels_in side.now.length) (path_rects form.now points.now))) }
     ensures placed { IfOk result IsPlaced }
@@ -343,7 +343,7 @@ fn path(
     form: &PathForm,
     points: &[Position],
 ) -> Result<Outline, PlaceFault>
-    requires { All (IsWithin (2 ^ 51)) points.now }
+    requires { All (IsPositionWithin (2 ^ 51)) points.now }
     ensures right { IfOk result (λ outline. path_fault pick.now.grid offset form.now points.now ≡ None) }
     ensures outline { IfOk result (λ outline. outline ≡ path_outline pick.now.grid form.now points.now) }
     ensures placed { IfOk result IsPlaced }
@@ -381,7 +381,7 @@ pub(crate) fn outline_of(
     pick: &Pick,
     placed: &PlacedShape,
 ) -> Result<Outline, PlaceFault>
-    requires { IsWithin (2 ^ 50) placed.now.placement.shift }
+    requires { IsPositionWithin (2 ^ 50) placed.now.placement.shift }
     ensures right { IfOk result (λ outline. shape_fault pick.now.grid (mapped placed.now) ≡ None) }
     ensures outline { IfOk result (λ outline. outline ≡ outline_of pick.now.grid (mapped placed.now)) }
     ensures placed { IfOk result IsPlaced }
@@ -401,7 +401,7 @@ pub(crate) fn outlines_of(
     pick: &Pick,
     shapes: &[PlacedShape],
 ) -> Result<Vec<Outline>, PlaceFault>
-    requires { All (λ x. IsWithin (2 ^ 50) x.placement.shift) shapes.now }
+    requires { All (λ x. IsPositionWithin (2 ^ 50) x.placement.shift) shapes.now }
     ensures right { IfOk result (λ list. first_fault pick.now.grid (map mapped shapes.now) ≡ None) }
     ensures outlines { IfOk result (λ list. list.items ≡ map (outline_of pick.now.grid) (map mapped shapes.now)) }
     ensures placed { IfOk result (λ list. All IsPlaced list.items) }

@@ -1,9 +1,11 @@
 //! The stages of an expansion, each of which answers its fault.
 
-ghost use Rattle.std.specs.Prelude.{◌≡◌, ℕ, ◌⊎◌, ◌<◌, ◌≤◌, All, Contains, IfOk, IfErr, OnOk, Some, length};
+ghost use Rattle.std.specs.Prelude.{◌≡◌, ℕ, ◌⊎◌, ◌<◌, ◌≤◌, All, Contains, IfOk, IfErr, IsOk, IsErrOf, OnOk, Some, List, length};
 ghost use Rattle.opc_base.specs.Cover.{IsPlaced};
+ghost use Rattle.opc_base.specs.declared.outline.Outline.{Outline};
+ghost use Rattle.gds_model.specs.Library.{HasAscendingOffsets};
 ghost use Rattle.gds_model.specs.declared.place_fault.PlaceFault.TheVariants as faults;
-ghost use Rattle.gds_model.specs.PlaceFaults.{AreReferencesRight, IsFaultFrom, IsPlaceFault, IsPlacement, IsReferenceFault, IsWhole, saturated};
+ghost use Rattle.gds_model.specs.PlaceFaults.{AreReferencesRight, IsFaultFrom, IsPlaceFault, IsPlacement, IsReferenceFault, PlacesAll, saturated};
 ghost use Rattle.gds_model.specs.Reach.{number_of};
 ghost use Rattle.gds_expand.specs.Orders.{IsGraphOf, IsOrderFrom};
 ghost use Rattle.gds_expand.specs.Points.{IsOrderOf, points_in};
@@ -31,9 +33,23 @@ const MAX_POINTS: u64 = 1_048_576;
 /// its structure. Offsets are those of elements in the file.
 pub fn expand(alloc: Global, library: &Library, pick: &Pick) -> Result<Placed, PlaceFault>
     ensures placement { IfOk result (λ placed. IsPlacement library.now.structures pick.now placed) }
-    ensures whole { IfOk result (λ placed. IsWhole library.now.structures pick.now placed) }
+    ensures whole { IfOk result (λ placed. PlacesAll library.now.structures pick.now placed) }
     ensures placed { IfOk result (λ placed. All IsPlaced placed) }
     ensures fault { IfErr result (λ fault. (fault ≡ faults.NoMemory) ⊎ IsPlaceFault library.now.structures pick.now fault) }
+    ensures places { (outlines : List Outline) → IsPlacement library.now.structures pick.now outlines
+        → IsOk result ⊎ IsErrOf result faults.NoMemory }
+    ensures refuses { (fault : PlaceFault) → IsPlaceFault library.now.structures pick.now fault
+        → IsErrOf result fault ⊎ IsErrOf result faults.NoMemory }
+{
+    expand_top(alloc, library, pick)
+}
+
+/// The five stages. The offsets of the library's elements ascend.
+fn expand_top(alloc: Global, library: &Library, pick: &Pick) -> Result<Placed, PlaceFault>
+    ensures placement { IfOk result (λ placed. IsPlacement library.now.structures pick.now placed) }
+    ensures placed { IfOk result (λ placed. All IsPlaced placed) }
+    ensures fault { IfErr result (λ fault. (fault ≡ faults.NoMemory) ⊎ IsPlaceFault library.now.structures pick.now fault) }
+    ensures offsets { HasAscendingOffsets library.now.structures }
 {
     match number_of(library, &pick.top) {
         None => Err(PlaceFault::NoTop),

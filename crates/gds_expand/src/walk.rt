@@ -1,7 +1,7 @@
 //! The shapes that a structure places, without recursion.
 
 ghost use Rattle.std.specs.Prelude.{◌≡◌, ℕ, ◌^◌, ◌<◌, length, map, All, IfOk};
-ghost use Rattle.gds_model.specs.Placement.{IsWithin};
+ghost use Rattle.gds_model.specs.Placement.{IsPositionWithin};
 ghost use Rattle.gds_expand.specs.Steps.{IsRanked, mapped, plan_places};
 
 use crate::placement::Placement;
@@ -39,7 +39,7 @@ pub(crate) fn placed_shapes<'a>(
     requires ranked { (rank : ℕ → ℕ) × IsRanked plan.now rank × (rank top < 2 ^ 16) }
     requires top { top < length plan.now }
     ensures placed { IfOk result (λ shapes. map mapped shapes.items ≡ plan_places plan.now (2 ^ 16) top) }
-    ensures near { IfOk result (λ shapes. All (λ x. IsWithin (2 ^ 50) x.placement.shift) shapes.items) }
+    ensures near { IfOk result (λ shapes. All (λ x. IsPositionWithin (2 ^ 50) x.placement.shift) shapes.items) }
 {
     let mut shapes = Vec::new(alloc);
     let mut tasks = Vec::new(alloc);

@@ -187,7 +187,7 @@ module _ (bytes : List ℕ) (at : ℕ) (names : List (List ℕ)) (head : Head) (
   pub layout_there : IsLayout (record { head = head; structures = structures })
   layout_there =
       let P : StreamLibrary → Type 0 = λ l. IsLayout l in
-      subst P (sym library_same) (library_is_layout end.tree end.fine)
+      subst P (sym library_same) (library_is_layout bytes end.tree end.spelled end.fine)
 
   pub names_there : names ≡ structure_names structures
   names_there = end.names_are ∙ library_names end.tree ∙ ap structure_names (sym end.structures_are)

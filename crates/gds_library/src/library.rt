@@ -8,7 +8,7 @@ use opc_base::Name;
 use std::marker::Model;
 
 /// A layout: its head, and its structures in file order, no two of one name. A shape has at least one point, a reference one,
-/// and three where it is an array.
+/// and three where it is an array. The offsets of elements ascend in file order, so no two have the same.
 #[derive(Drop)]
 pub struct Library {
     head: Head,

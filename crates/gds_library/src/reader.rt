@@ -4,6 +4,7 @@ ghost use Rattle.gds_model.specs.declared.layout_fault.LayoutFault.{LayoutFault 
 ghost use Rattle.gds_model.specs.declared.layout_fault.LayoutFault.TheVariants as fault;
 ghost use Rattle.gds_model.specs.Faults.{HasNoFault, IsFault, IsTrailingFrom, AllZeroFrom};
 ghost use Rattle.gds_model.specs.Library.{IsLibraryOf, IsLayout};
+ghost use Rattle.gds_records.specs.Records.{AreLongest, records_from};
 
 use crate::draft::Draft;
 use crate::library::Library;
@@ -12,8 +13,8 @@ use gds_model::{LayoutFault, RecordKind};
 use gds_records::{Next, next_record};
 use std::alloc::Global;
 
-/// Reads a layout: its library, or the first fault in file order. The bytes are read once; a body that isn't part of the
-/// library isn't copied.
+/// Reads a layout: its library, or the first fault in file order. Either is that of the file's records, which are the
+/// longest list of records that stands in it. The bytes are read once; a body that isn't part of the library isn't copied.
 pub fn read_library(alloc: Global, bytes: &[u8]) -> Result<Library, LayoutFault>
     ensures library { IfOk result (λ described. IsLibraryOf bytes.now described) }
     ensures layout { IfOk result (λ described. IsLayout described) }
@@ -21,6 +22,9 @@ pub fn read_library(alloc: Global, bytes: &[u8]) -> Result<Library, LayoutFault>
     ensures fault { IfErr result (λ e. (e ≡ fault.NoMemory) ⊎ IsFault bytes.now e) }
     ensures reads { HasNoFault bytes.now → IsOk result ⊎ IsErrOf result fault.NoMemory }
     ensures refuses { (e : Fault) → IsFault bytes.now e → IsErrOf result e ⊎ IsErrOf result fault.NoMemory }
+
+    // of all bytes
+    ensures records { AreLongest bytes.now 0 (records_from bytes.now 0) }
 {
     read_records(alloc, bytes)
 }

@@ -14,7 +14,7 @@ use Rattle.std.proofs.lemmas.List.FromFn.{length-map-range_with_len}
 use Rattle.std.proofs.lemmas.List.Sums.{sum_by-append, fold-append}
 use Rattle.std.proofs.lemmas.Grind.{flat_map-append}
 use Rattle.gds_records.specs.Points.{point_in}
-use Rattle.gds_records.specs.Records.{StreamRecord}
+use Rattle.gds_records.specs.Records.{StreamRecord, records_from}
 use Rattle.gds_model.specs.declared.record_kind.RecordKind.{RecordKind}
 use Rattle.gds_model.specs.declared.record_kind.RecordKind.TheVariants.{Boundary, Path, Sref, Aref, Box, BgnStr, StrName, EndStr, StrClass, EndEl, Xy, ColRow, Header, BgnLib, LibName, Units, EndLib}
 use Rattle.gds_model.specs.declared.elements.Element.{Element}
@@ -27,6 +27,7 @@ use Rattle.gds_model.specs.StreamFile.{library_option, property, boundary, path,
 use Rattle.gds_model.specs.Faults.{IsFine, AllFine, one_too_many, bad_body, duplicate, structure_count, element_of, names_in, names_of}
 use Rattle.gds_model.specs.Elements.{body_of, bytes_of, points_in, grid_in, elements_in}
 use Rattle.gds_model.specs.Library.{HasItsPoints, names, IsLayout, elements_of, structure_of, library_of}
+use Rattle.gds_model.proofs.Offsets.{ascending_offsets}
 
 abbrev entry : RecordKind → Content → StreamRecord
 entry k t = record { offset = t.offset; code = code_of k; body = t.body }
@@ -528,8 +529,9 @@ library_points (header, (dates, (first_options, (name, (options, (units, (struct
     structures_points structures three (AllFine-front three c last after_b.1)
 
 -- The library of a file whose records are all fine is a layout.
-pub library_is_layout : (t : Tree library) → AllFine [] (records_of library t) → IsLayout (library_of t)
-library_is_layout t fine =
+pub library_is_layout : (bytes : List ℕ) (t : Tree library) → records_of library t ≡ records_from bytes 0
+    → AllFine [] (records_of library t) → IsLayout (library_of t)
+library_is_layout bytes t spelled fine =
     let P : List (List ℕ) → Type 0 = λ l. AreDistinct l in
     let structures = (library_of t).structures in
     let distinct : AreDistinct (names structures) =
@@ -541,5 +543,6 @@ library_is_layout t fine =
     record {
       points = library_points t fine;
       distinct = λ i j first second same. distinct i j (omega (arith, count, first)) (omega (arith, count, second)) same;
+      offsets = ascending_offsets bytes t spelled;
       few = omega (arith, number, few);
     }

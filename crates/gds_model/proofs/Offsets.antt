@@ -1,10 +1,12 @@
--- No two elements of a file's library have one offset: records stand one after another, and an element has the offset of its first.
-use Rattle.std.proofs.Common.{◌≡◌, ℕ, zero, suc, ◌+◌, ◌≤◌, Bool, true, false, ◌==◌, Option, Some, None, List, [], ◌∷◌, ◌++◌, Contains, length, map, refl, sym, ap, ◌∙◌, subst, inl, inr, arith}
+-- The offsets of a file's elements ascend: records stand one after another, and an element has the offset of its first.
+use Rattle.std.proofs.Common.{◌≡◌, ℕ, zero, suc, ◌+◌, ◌<◌, ◌≤◌, Bool, true, false, ◌==◌, Option, Some, None, List, [], ◌∷◌, ◌++◌, AllPairs, Contains, length, map, get_or, refl, sym, ap, ◌∙◌, subst, inl, inr, arith}
 use Rattle.std.specs.Prelude.{◌⊎◌, if◌then◌else◌}
 use Rattle.std.specs.List.{flat_map}
-use Rattle.std.proofs.lemmas.List.{map-append}
+use Rattle.std.proofs.lemmas.List.{get_or_default, map-append}
 use Rattle.std.proofs.lemmas.List.Concat.{flat_map-cons}
-use Rattle.std.proofs.lemmas.List.Elements.{Contains-append_left, Contains-append_right}
+use Rattle.std.proofs.lemmas.Bool.{cases_order}
+use Rattle.std.proofs.lemmas.List.Elements.{Contains-append_left, Contains-append_right, Contains-get_or}
+use Rattle.std.proofs.lemmas.List.Kept.{AllPairs-cons}
 use Rattle.std.proofs.lemmas.Option.{cond_some}
 use Rattle.gds_records.specs.Records.{StreamRecord, record_at, end_of, ENDLIB, record_and, at_most_records, records_from}
 use Rattle.gds_model.specs.declared.elements.Element.{Element}
@@ -16,7 +18,7 @@ use Rattle.gds_model.specs.RecordKind.{code_of}
 use Rattle.gds_model.specs.Grammar.{Grammar, ◌⨾◌, Tree, records_of}
 use Rattle.gds_model.specs.StreamFile as file
 use Rattle.gds_model.specs.Elements.{elements_in, shape_of, path_kind, reference_of}
-use Rattle.gds_model.specs.Library.{StreamLibrary, IsLibraryOf, elements_of, structure_of, library_of}
+use Rattle.gds_model.specs.Library.{StreamLibrary, IsLibraryOf, HasAscendingOffsets, all_elements, elements_of, offset_of, structure_of, library_of}
 use Rattle.gds_model.specs.Reach.{elements_at}
 use Rattle.gds_model.proofs.PlaceLaws.{HasDistinctOffsets}
 
@@ -61,10 +63,6 @@ rest low high ns ms h = let s = split low high ns ms h in wider s.middle high lo
 
 abbrev offsets : List StreamRecord → List ℕ
 offsets rs = map (λ r. r.offset) rs
-
-abbrev offset_of : Element → ℕ
-offset_of (Shape shape) = shape.offset
-offset_of (Reference reference) = reference.offset
 
 abbrev element_offsets : List Element → List ℕ
 element_offsets es = map offset_of es
@@ -160,10 +158,6 @@ structure_spelled low high t h =
     parts_spelled (records_of file.element) elements_of (λ l u e. element_spelled l u (records_of file.element e)) t.1.1.1.0 low high
     (first (later (later (later all)))).spelled
 
--- all elements of a library, in file order
-abbrev all_elements : List Structure → List Element
-all_elements structures = flat_map (λ s. s.elements) structures
-
 structures_spelled : (low high : ℕ) (ts : List (Tree file.structure)) → Ascend low high (offsets (flat_map (records_of file.structure) ts))
     → Are low high (all_elements (map structure_of ts))
 structures_spelled low high ts h =
@@ -195,17 +189,20 @@ no_lower low high (e ∷ es) x h among = elim (one_or_rest e es x among) [
   | inr later ↦ let first = h.0 in let above = no_lower (offset_of e + 1) high es x h.1 later in omega arith
 ]
 
-one_at_offset : (low high : ℕ) (es : List Element) (x y : Element) → Are low high es → Contains es x → Contains es y → offset_of x ≡ offset_of y → x ≡ y
-one_at_offset low high [] x y h (k, there, is) q same = absurd (omega arith)
-one_at_offset low high (e ∷ es) x y h p q same = both (one_at_offset (offset_of e + 1) high es x y h.1) (one_or_rest e es x p) (one_or_rest e es y q)
-  where
-    both : (Contains es x → Contains es y → offset_of x ≡ offset_of y → x ≡ y) → (e ≡ x) ⊎ Contains es x → (e ≡ y) ⊎ Contains es y → x ≡ y
-    both later (inl a) (inl b) = sym a ∙ b
-    both later (inl a) (inr b) =
-        let above = no_lower (offset_of e + 1) high es y h.1 b in let here : offset_of e ≡ offset_of x = ap offset_of a in absurd (omega arith)
-    both later (inr a) (inl b) =
-        let above = no_lower (offset_of e + 1) high es x h.1 a in let here : offset_of e ≡ offset_of y = ap offset_of b in absurd (omega arith)
-    both later (inr a) (inr b) = later a b same
+pairs_ascend : (low high : ℕ) (es : List Element) → Are low high es → AllPairs (λ e f. offset_of e < offset_of f) es
+pairs_ascend low high [] h = λ i j d before below. absurd (omega arith)
+pairs_ascend low high (e ∷ es) h =
+    AllPairs-cons (λ e f. offset_of e < offset_of f) e es
+    (λ k d below. let above = no_lower (offset_of e + 1) high es (get_or es k d) h.1 (Contains-get_or es k d below) in omega arith)
+    (pairs_ascend (offset_of e + 1) high es h.1)
+
+-- the offsets of the library that a file's records spell
+pub ascending_offsets : (bytes : List ℕ) (t : Tree file.library) → records_of file.library t ≡ records_from bytes 0
+    → HasAscendingOffsets (library_of t).structures
+ascending_offsets bytes t spelled =
+    let all = all_records bytes 0 in
+    pairs_ascend 0 all.0 (all_elements (library_of t).structures)
+    (library_spelled 0 all.0 t (subst (λ rs. Ascend 0 all.0 (offsets rs)) (sym spelled) all.1))
 
 among_all : (library : List Structure) (s : ℕ) (x : Element) → Contains (elements_at library s) x → Contains (all_elements library) x
 among_all [] s x (k, there, is) = absurd (omega arith)
@@ -216,13 +213,32 @@ among_all (structure ∷ library) (suc s) x among =
     subst (λ es. Contains es x) (sym (flat_map-cons (λ s. s.elements) structure library))
     (Contains-append_right structure.elements (all_elements library) x (among_all library s x among))
 
+-- one element has an offset
+one_at_offset : (es : List Element) (x y : Element) → AllPairs (λ e f. offset_of e < offset_of f) es
+    → Contains es x → Contains es y → offset_of x ≡ offset_of y → x ≡ y
+one_at_offset es x y pairs (i, i_below, x_is) (j, j_below, y_is) same = elim (cases_order i j) [
+  | inl one ↦ sym x_is ∙ get_or_default es i x y i_below ∙ ap (λ k. get_or es k y) one ∙ y_is
+  | inr other ↦ elim other [
+    | inl before ↦ (let less = pairs i j y before j_below in
+        let first : offset_of (get_or es i y) ≡ offset_of x = ap offset_of (get_or_default es i y x i_below ∙ x_is) in
+        let second : offset_of (get_or es j y) ≡ offset_of y = ap offset_of y_is in
+        absurd (omega arith))
+    | inr after ↦ (let less = pairs j i x after i_below in
+        let first : offset_of (get_or es i x) ≡ offset_of x = ap offset_of x_is in
+        let second : offset_of (get_or es j x) ≡ offset_of y = ap offset_of (get_or_default es j x y j_below ∙ y_is) in
+        absurd (omega arith))
+  ]
+]
+
+pub distinct_from_ascending : (structures : List Structure) → HasAscendingOffsets structures → HasDistinctOffsets structures
+distinct_from_ascending structures ascend top r q (s, reaches, among) (t, reaches', among') same =
+    let one : Reference r ≡ Reference q
+    = one_at_offset (all_elements structures) (Reference r) (Reference q) ascend
+    (among_all structures s (Reference r) among) (among_all structures t (Reference q) among') same in
+    cc
+
 -- the references of a file's library have distinct offsets
 pub distinct_offsets : (bytes : List ℕ) (library : StreamLibrary) → IsLibraryOf bytes library → HasDistinctOffsets library.structures
-distinct_offsets bytes library is top r q (s, reaches, among) (t, reaches', among') same =
-    let spelled = all_records bytes 0 in
-    let ascend = library_spelled 0 spelled.0 is.tree (subst (λ rs. Ascend 0 spelled.0 (offsets rs)) (sym is.spelled) spelled.1) in
-    let ascends = subst (λ l. Are 0 spelled.0 (all_elements l.structures)) (sym is.same) ascend in
-    let one : Reference r ≡ Reference q
-    = one_at_offset 0 spelled.0 (all_elements library.structures) (Reference r) (Reference q) ascends
-    (among_all library.structures s (Reference r) among) (among_all library.structures t (Reference q) among') same in
-    cc
+distinct_offsets bytes library is =
+    distinct_from_ascending library.structures
+    (subst (λ (l : StreamLibrary). HasAscendingOffsets l.structures) (sym is.same) (ascending_offsets bytes is.tree is.spelled))

@@ -10,7 +10,7 @@ use Rattle.gds_model.specs.declared.place_fault.PlaceFault.{PlaceFault}
 use Rattle.gds_model.specs.declared.place_fault.PlaceFault.TheVariants.{NoTop, Cycle}
 use Rattle.gds_model.specs.Reach.{number_of}
 use Rattle.gds_model.specs.Outlines.{outline_of}
-use Rattle.gds_model.specs.PlaceFaults.{reference_fault, IsReached, IsReferenceFault, AreReferencesRight, IsCycleFault, HasNoCycle, point_count, first_fault, chosen_list, IsFaultFrom, IsPlaceFault, IsPlacement, IsWhole}
+use Rattle.gds_model.specs.PlaceFaults.{reference_fault, IsReached, IsReferenceFault, AreReferencesRight, IsCycleFault, HasNoCycle, point_count, first_fault, chosen_list, IsFaultFrom, IsPlaceFault, IsPlacement, PlacesAll}
 use Rattle.gds_model.specs.PlacedList.{Mapped, is_on, placed_in}
 use Rattle.gds_model.proofs.PlacedListLaws.{placed_in-whole}
 
@@ -95,7 +95,7 @@ module _ (library : List Structure) (distinct : HasDistinctOffsets library) (pic
       same ∙ ap (λ n. map (outline_of pick.grid) (chosen_list library pick n)) one ∙ sym same'
 
 -- a placement leaves nothing out
-pub placement_whole : (library : List Structure) (pick : Pick) (outlines : List Outline) → IsPlacement library pick outlines → IsWhole library pick outlines
+pub placement_whole : (library : List Structure) (pick : Pick) (outlines : List Outline) → IsPlacement library pick outlines → PlacesAll library pick outlines
 placement_whole library pick outlines (top, is, right, acyclic, few, fine, made) other depth is' deep =
     let one : top ≡ other = let found : Some top ≡ Some other = sym is ∙ is' in cc in
     let all : List Structure → ℕ → List Mapped = λ structures s. placed_in structures (is_on pick.layer pick.datatype) depth s in

@@ -1,5 +1,5 @@
 -- The library that a sentence describes.
-use Rattle.std.specs.Prelude.{◌≡◌, ℕ, ◌<◌, ◌≤◌, All, MatchOption, slice_index_or, List, [], length, map}
+use Rattle.std.specs.Prelude.{◌≡◌, ℕ, ◌<◌, ◌≤◌, All, AllPairs, MatchOption, slice_index_or, List, [], length, map}
 use Rattle.std.specs.List.{flat_map}
 use Rattle.gds_records.specs.declared.library_head.Head.{Head}
 use Rattle.gds_records.specs.Records.{records_from}
@@ -30,10 +30,24 @@ HasDistinctNames structures =
     (i j : ℕ) → i < length structures → j < length structures
     → slice_index_or (names structures) i [] ≡ slice_index_or (names structures) j [] → i ≡ j
 
+-- where the first record of an element stands in the file
+abbrev pub offset_of : Element → ℕ
+offset_of (element.Shape shape) = shape.offset
+offset_of (element.Reference reference) = reference.offset
+
+-- the elements of all structures, in file order
+abbrev pub all_elements : List Structure → List Element
+all_elements structures = flat_map (λ structure. structure.elements) structures
+
+-- no two elements have the same offset: it ascends in file order
+abbrev pub HasAscendingOffsets : List Structure → Type 0
+HasAscendingOffsets structures = AllPairs (λ e f. offset_of e < offset_of f) (all_elements structures)
+
 -- what is true of the library of every file
 pub record IsLayout (layout : StreamLibrary) : Type 0 where
   pub points : All (λ structure. All HasItsPoints structure.elements) layout.structures
   pub distinct : HasDistinctNames layout.structures
+  pub offsets : HasAscendingOffsets layout.structures
   pub few : length layout.structures ≤ 65535
 
 abbrev pub elements_of : Tree file.element → List Element

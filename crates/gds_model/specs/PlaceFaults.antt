@@ -194,6 +194,6 @@ IsPlacement library pick outlines = (top : ℕ) × (number_of library pick.top �
     × (outlines ≡ map (outline_of pick.grid) (chosen_list library pick top))
 
 -- nothing is left out: these are the placed shapes at every depth that is at least the number of structures
-abbrev pub IsWhole : List Structure → Pick → List Outline → Type 0
-IsWhole library pick outlines = (top depth : ℕ) → number_of library pick.top ≡ Some top → length library ≤ depth
+abbrev pub PlacesAll : List Structure → Pick → List Outline → Type 0
+PlacesAll library pick outlines = (top depth : ℕ) → number_of library pick.top ≡ Some top → length library ≤ depth
     → outlines ≡ map (outline_of pick.grid) (placed_in library (is_on pick.layer pick.datatype) depth top)

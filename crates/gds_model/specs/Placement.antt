@@ -20,6 +20,6 @@ abbrev pub shifted : Position → Position → Position
 shifted by p = record { x = p.x +ℤ by.x; y = p.y +ℤ by.y }
 
 -- both coordinates are within plus or minus n
-pub record IsWithin (n : ℕ) (p : Position) : Type 0 where
+pub record IsPositionWithin (n : ℕ) (p : Position) : Type 0 where
   pub x : unsigned_abs p.x ≤ n
   pub y : unsigned_abs p.y ≤ n

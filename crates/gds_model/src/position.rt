@@ -9,13 +9,13 @@ pub struct Position {
 }
 
 impl Position {
-    ghost use Rattle.gds_model.specs.Placement.{IsWithin, quarter_turned, reflected, shifted, turned};
+    ghost use Rattle.gds_model.specs.Placement.{IsPositionWithin, quarter_turned, reflected, shifted, turned};
 
     /// The point reflected about the x axis, where `flip` says so.
     pub fn reflected(self, flip: bool) -> Self
-        requires { IsWithin (2 ^ 61) self }
+        requires { IsPositionWithin (2 ^ 61) self }
         ensures value { result ≡ reflected flip self }
-        ensures bound { (n : ℕ) → IsWithin n self → IsWithin n result }
+        ensures bound { (n : ℕ) → IsPositionWithin n self → IsPositionWithin n result }
     {
         Position {
             x: self.x,
@@ -26,9 +26,9 @@ impl Position {
     /// The point turned about the origin by so many quarter turns counterclockwise.
     pub fn turned(self, turns: u8) -> Self
         requires turns { turns < 4 }
-        requires bound { IsWithin (2 ^ 61) self }
+        requires bound { IsPositionWithin (2 ^ 61) self }
         ensures value { result ≡ turned turns self }
-        ensures bound { (n : ℕ) → IsWithin n self → IsWithin n result }
+        ensures bound { (n : ℕ) → IsPositionWithin n self → IsPositionWithin n result }
     {
         let Position { x, y } = self;
         match turns {
@@ -41,10 +41,10 @@ impl Position {
 
     /// The point shifted by this.
     pub fn shifted(self, by: Self) -> Self
-        requires from { IsWithin (2 ^ 61) self }
-        requires by { IsWithin (2 ^ 61) by }
+        requires from { IsPositionWithin (2 ^ 61) self }
+        requires by { IsPositionWithin (2 ^ 61) by }
         ensures value { result ≡ shifted by self }
-        ensures bound { (m n : ℕ) → IsWithin m by → IsWithin n self → IsWithin (m + n) result }
+        ensures bound { (m n : ℕ) → IsPositionWithin m by → IsPositionWithin n self → IsPositionWithin (m + n) result }
     {
         Position {
             x: self.x + by.x,

@@ -1,7 +1,7 @@
 //! Eight-byte reals (Stream Format Manual 6.0, data type 5).
 
 ghost use Rattle.std.specs.Prelude.{◌≡◌, ℕ, ◌*◌, ◌^◌, ◌<◌, ◌≤◌, ◌↔◌, ℤ, pos, IsTrue, IfSome};
-ghost use Rattle.gds_records.specs.Real.{HasSize, IsRightAngles, IsWhole, exponent, is_negative, is_one, mantissa, quarter_of, quarter_turns};
+ghost use Rattle.gds_records.specs.Real.{HasSize, IsRightAngles, IsWholeNumber, exponent, is_negative, is_one, mantissa, quarter_of, quarter_turns};
 
 /// A sign, an exponent to the base 16 in excess 64, and a mantissa of 56 bits after the point.
 #[derive(Clone, Copy, Debug)]
@@ -63,7 +63,7 @@ pub fn quarter_turns(real: [u8; 8]) -> Option<u8>
 /// Whether the real is 1, in any spelling.
 pub fn is_one(real: [u8; 8]) -> bool
     ensures value { result ≡ is_one real }
-    ensures exact { IsTrue result ↔ IsWhole real (pos 1) }
+    ensures exact { IsTrue result ↔ IsWholeNumber real (pos 1) }
 {
     let real = Real::from_bytes(real);
     !real.negative && real.has_size(1)

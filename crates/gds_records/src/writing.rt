@@ -10,7 +10,7 @@ use std::alloc::Global;
 /// Appends a record of this record type and data type, with this body. `next_record` reads it back.
 /// After `NoMemory` `out` is as it was.
 pub fn put_record(
-    alloc: Global,
+    _alloc: Global,
     out: &mut Bytes,
     kind: u8,
     data_type: u8,
@@ -25,8 +25,5 @@ pub fn put_record(
 {
     let mut header = [0, 0, kind, data_type];
     BigEndian::write_u16(&mut header, (body.len() + 4) as u16);
-    let mut written = Vec::with_capacity(alloc, body.len() + 4)?;
-    written.extend_from_slice(&header)?;
-    written.extend_from_slice(body)?;
-    out.append(written.as_slice())
+    out.append_both(&header, body)
 }

@@ -1,28 +1,31 @@
 -- The library that the records of a mask file describe.
-use Rattle.std.proofs.Common.{◌≡◌, ◌≢◌, ℕ, ◌+◌, ◌*◌, ◌/◌, ◌%◌, ◌<◌, ◌≤◌, ◌==◌, Bool, true, false, cond, List, [], ◌∷◌, ◌++◌, length, refl, ap, ◌∙◌, subst, arith, FitsSigned, w32}
+use Rattle.std.proofs.Common.{◌≡◌, ◌≢◌, ℕ, ◌+◌, ◌*◌, ◌/◌, ◌%◌, ◌<◌, ◌≤◌, ◌==◌, Bool, true, false, cond, List, [], ◌∷◌, ◌++◌, length, get_or, refl, ap, ap₂, sym, ◌∙◌, subst, append_assoc, arith, FitsSigned, w32}
 use Rattle.std.specs.Prelude.{ℤ, pos, ◌*ℤ◌, map, All, IsTrue, unsigned_abs}
-use Rattle.std.specs.List.{flat_map}
+use Rattle.std.specs.List.{flat_map, range_with_len}
 use Rattle.std.specs.Int.{w16, to_be_bytes, cast_signed, cast_unsigned}
 use Rattle.std.proofs.Math.Facts.{Fits-of_z}
 use Rattle.std.proofs.lemmas.Bool.{ne_eqb}
+use Rattle.std.proofs.Math.ListN.{get_or-append}
+use Rattle.std.proofs.lemmas.List.{get_or-append-add, length-append}
 use Rattle.std.proofs.lemmas.Int.{to_z-of_z, fits_signed_mul, ints}
 use Rattle.std.proofs.lemmas.List.Elements.{All-head, All-tail}
 use Rattle.opc_base.specs.declared.plane.Pix.{Pix}
-use Rattle.opc_base.specs.declared.plane.Rect.{Rect}
 use Rattle.opc_base.specs.declared.rules.OutPick.{OutPick}
-use Rattle.opc_base.specs.Plane.{IsPixWithin, IsRectWithin}
+use Rattle.opc_base.specs.Plane.{IsPixWithin}
 use Rattle.opc_base.specs.Ranges.{IsBetween, is_name_byte}
 use Rattle.gds_records.specs.declared.library_head.Head.{Head}
 use Rattle.gds_records.specs.declared.points.Point.{Point}
 use Rattle.gds_records.specs.Numbers.{two_bytes, signed_four}
+use Rattle.gds_records.specs.Points.{point_in}
 use Rattle.gds_model.specs.declared.elements.Element.{Element}
 use Rattle.gds_model.specs.declared.elements.Element.TheVariants as element
 use Rattle.gds_model.specs.declared.shape.ShapeKind.TheVariants as shape_kind
 use Rattle.gds_model.specs.Elements.{points_in}
 use Rattle.gds_model.specs.Library.{StreamLibrary, elements_of, library_of}
 use Rattle.gds_model.specs.Names.{name_of}
-use Rattle.gds_writer.specs.MaskFile.{point_bytes, around, boundary, opening}
-use Rattle.gds_writer.specs.MaskLibrary.{point_of, shapes, first_shape, mask_library}
+use Rattle.gds_writer.specs.MaskFile.{point_bytes, boundary, opening}
+use Rattle.gds_writer.specs.MaskLibrary.{point_of, shapes, first_shape, outline_library}
+use Rattle.gds_writer.proofs.ReadBack.{length-points}
 use Rattle.gds_writer.proofs.Sentence.{after, element_tree, element_trees, mask_tree}
 
 two_bytes-back : (n : ℕ) → n < 65536 → two_bytes (to_be_bytes w16 n) 0 ≡ n
@@ -46,42 +49,73 @@ point-back grid p near between =
     let point : ℤ → ℤ → Point = λ x y. record { x = x; y = y } in
     ap (λ a. point a (signed_four (point_bytes grid p) 4)) x ∙ ap (λ b. point (p.x *ℤ grid) b) y
 
-five : (a b c d a' b' c' d' : Point) → a ≡ a' → b ≡ b' → c ≡ c' → d ≡ d'
-    → a ∷ b ∷ c ∷ d ∷ a ∷ [] ≡ a' ∷ b' ∷ c' ∷ d' ∷ a' ∷ []
-five a b c d a' b' c' d' ea eb ec ed = cc
+-- eight bytes behind others
+behind_others : (before here : List ℕ) (more : List ℕ) (n j : ℕ) → length before ≡ n → j + 4 ≤ length here
+    → signed_four (before ++ (here ++ more)) (n + j) ≡ signed_four here j
+behind_others before here more n j size within =
+    let at : (i : ℕ) → i < length here → get_or (before ++ (here ++ more)) (n + i) 0 ≡ get_or here i 0 =
+    λ i small. ap (λ k. get_or (before ++ (here ++ more)) (k + i) 0) (sym size) ∙ get_or-append-add before (here ++ more) i 0 ∙ get_or-append here more 0 i small in
+    let a = at j (omega arith) in
+    let b = at (j + 1) (omega arith) in
+    let c = at (j + 2) (omega arith) in
+    let d = at (j + 3) (omega arith) in
+    let pb : n + j + 1 ≡ n + (j + 1) = omega arith in
+    let pc : n + j + 2 ≡ n + (j + 2) = omega arith in
+    let pd : n + j + 2 + 1 ≡ n + (j + 3) = omega arith in
+    let pe : j + 2 + 1 ≡ j + 3 = omega arith in
+    rw (pd, pb, pc, pe, a, b, c, d) refl
 
-points-back : (grid : ℤ) (r : Rect) → IsRectWithin 1048128 r → IsBetween (pos 1) (pos 1000) grid
-    → points_in (flat_map (point_bytes grid) (around r)) ≡ map (point_of grid) (around r)
-points-back grid r (x0, y0, x1, y1) between =
-    five _ _ _ _ _ _ _ _ (point-back grid (record { x = r.x0; y = r.y0 }) (x0, y0) between)
-    (point-back grid (record { x = r.x1; y = r.y0 }) (x1, y0) between) (point-back grid (record { x = r.x1; y = r.y1 }) (x1, y1) between)
-    (point-back grid (record { x = r.x0; y = r.y1 }) (x0, y1) between)
-
-element-made : (out : OutPick) (grid : ℤ) (at : ℕ) (r : Rect) → out.layer < 65536 → out.datatype < 65536 → IsRectWithin 1048128 r
+points-from : (grid : ℤ) (before : List ℕ) (points : List Pix) (k : ℕ) → length before ≡ 8 * k → All (IsPixWithin 1048128) points
     → IsBetween (pos 1) (pos 1000) grid
-    → elements_of (element_tree out grid at r)
+    → map (λ i. point_in (before ++ flat_map (point_bytes grid) points) i) (range_with_len k (length points)) ≡ map (point_of grid) points
+points-from grid before [] k size within between = refl
+points-from grid before (p ∷ points) k size within between =
+    let here = point_bytes grid p in
+    let more = flat_map (point_bytes grid) points in
+    let point : ℤ → ℤ → Point = λ x y. record { x = x; y = y } in
+    let near = All-head (IsPixWithin 1048128) p points within in
+    let x : signed_four (before ++ (here ++ more)) (8 * k) ≡ signed_four here 0 =
+    (let none : 8 * k ≡ 8 * k + 0 = omega arith in ap (λ n. signed_four (before ++ (here ++ more)) n) none ∙ behind_others before here more (8 * k) 0 size (omega arith)) in
+    let y : signed_four (before ++ (here ++ more)) (8 * k + 4) ≡ signed_four here 4 = behind_others before here more (8 * k) 4 size (omega arith) in
+    let longer : length (before ++ here) ≡ 8 * (k + 1) = length-append before here ∙ (omega (arith, size)) in
+    let rest = points-from grid (before ++ here) points (k + 1) longer (All-tail (IsPixWithin 1048128) p points within) between in
+    ap₂ (λ a b. a ∷ b) (ap₂ point x y ∙ point-back grid p near between)
+    (ap (λ bytes. map (λ i. point_in bytes i) (range_with_len (k + 1) (length points))) (sym (append_assoc before here more)) ∙ rest)
+
+points-back : (grid : ℤ) (points : List Pix) → All (IsPixWithin 1048128) points → IsBetween (pos 1) (pos 1000) grid
+    → points_in (flat_map (point_bytes grid) points) ≡ map (point_of grid) points
+points-back grid points within between =
+    let size = length-points grid points in
+    let count : length (flat_map (point_bytes grid) points) / 8 ≡ length points = omega arith in
+    ap (λ n. map (λ i. point_in (flat_map (point_bytes grid) points) i) (range_with_len 0 n)) count
+    ∙ points-from grid [] points 0 refl within between
+
+element-made : (out : OutPick) (grid : ℤ) (at : ℕ) (outline : List Pix) → out.layer < 65536 → out.datatype < 65536 → All (IsPixWithin 1048128) outline
+    → IsBetween (pos 1) (pos 1000) grid
+    → elements_of (element_tree out grid at outline)
     ≡ element.Shape
-    (record { offset = at; kind = shape_kind.Boundary; layer = out.layer; datatype = out.datatype; points = map (point_of grid) (around r) })
+    (record { offset = at; kind = shape_kind.Boundary; layer = out.layer; datatype = out.datatype; points = map (point_of grid) outline })
     ∷ []
-element-made out grid at r layer datatype near between =
+element-made out grid at outline layer datatype near between =
     let made : ℕ → ℕ → List Point → List Element = λ l d ps. element.Shape (record { offset = at; kind = shape_kind.Boundary; layer = l; datatype = d; points = ps }) ∷ [] in
-    let points = points_in (flat_map (point_bytes grid) (around r)) in
+    let points = points_in (flat_map (point_bytes grid) outline) in
     ap (λ n. made n (two_bytes (to_be_bytes w16 out.datatype) 0) points) (two_bytes-back out.layer layer)
     ∙ ap (λ n. made out.layer n points) (two_bytes-back out.datatype datatype)
-    ∙ ap (λ ps. made out.layer out.datatype ps) (points-back grid r near between)
+    ∙ ap (λ ps. made out.layer out.datatype ps) (points-back grid outline near between)
 
-elements-made : (out : OutPick) (grid : ℤ) (at : ℕ) (rects : List Rect) → (0 < length rects → (out.layer < 65536) × (out.datatype < 65536))
-    → All (IsRectWithin 1048128) rects → IsBetween (pos 1) (pos 1000) grid
-    → flat_map elements_of (element_trees out grid at rects) ≡ shapes out grid at rects
+elements-made : (out : OutPick) (grid : ℤ) (at : ℕ) (outlines : List (List Pix)) → (0 < length outlines → (out.layer < 65536) × (out.datatype < 65536))
+    → All (λ points. All (IsPixWithin 1048128) points) outlines → IsBetween (pos 1) (pos 1000) grid
+    → flat_map elements_of (element_trees out grid at outlines) ≡ shapes out grid at outlines
 elements-made out grid at [] fits near between = refl
-elements-made out grid at (r ∷ rects) fits near between =
+elements-made out grid at (points ∷ outlines) fits near between =
     let numbers = fits (omega arith) in
-    let next : after at (boundary out grid r) ≡ at + 64 = omega arith in
-    let rest = elements-made out grid (at + 64) rects (λ _. numbers) (All-tail (IsRectWithin 1048128) r rects near) between in
-    ap (λ l. l ++ flat_map elements_of (element_trees out grid (after at (boundary out grid r)) rects))
-    (element-made out grid at r numbers.0 numbers.1 (All-head (IsRectWithin 1048128) r rects near) between)
-    ∙ ap (λ l. element.Shape (record { offset = at; kind = shape_kind.Boundary; layer = out.layer; datatype = out.datatype; points = map (point_of grid) (around r) }) ∷ l)
-    (ap (λ n. flat_map elements_of (element_trees out grid n rects)) next ∙ rest)
+    let size = length-points grid points in
+    let next : after at (boundary out grid points) ≡ at + (24 + 8 * length points) = omega arith in
+    let rest = elements-made out grid (at + (24 + 8 * length points)) outlines (λ _. numbers) (All-tail (λ points. All (IsPixWithin 1048128) points) points outlines near) between in
+    ap (λ l. l ++ flat_map elements_of (element_trees out grid (after at (boundary out grid points)) outlines))
+    (element-made out grid at points numbers.0 numbers.1 (All-head (λ points. All (IsPixWithin 1048128) points) points outlines near) between)
+    ∙ ap (λ l. element.Shape (record { offset = at; kind = shape_kind.Boundary; layer = out.layer; datatype = out.datatype; points = map (point_of grid) points }) ∷ l)
+    (ap (λ n. flat_map elements_of (element_trees out grid n outlines)) next ∙ rest)
 
 -- a name of plain bytes is the name in its body, whatever zero byte stands behind it
 plain-back : (name : List ℕ) → All (λ b. IsTrue (is_name_byte b)) name → (name_of name ≡ name) × (name_of (name ++ 0 ∷ []) ≡ name)
@@ -97,14 +131,14 @@ padded-back : (name : List ℕ) (even : Bool) → All (λ b. IsTrue (is_name_byt
 padded-back name true plain = (plain-back name plain).0
 padded-back name false plain = (plain-back name plain).1
 
-pub mask-described : (head : Head) (out : OutPick) (grid : ℤ) (rects : List Rect) → length head.header ≡ 2 → length head.dates ≡ 24
-    → length head.units ≡ 16 → (0 < length rects → (out.layer < 65536) × (out.datatype < 65536)) → All (IsRectWithin 1048128) rects → IsBetween (pos 1) (pos 1000) grid
-    → library_of (mask_tree head out grid rects) ≡ mask_library head out grid rects
-mask-described head out grid rects header dates units fits near between =
+pub mask-described : (head : Head) (out : OutPick) (grid : ℤ) (outlines : List (List Pix)) → length head.header ≡ 2 → length head.dates ≡ 24
+    → length head.units ≡ 16 → (0 < length outlines → (out.layer < 65536) × (out.datatype < 65536)) → All (λ points. All (IsPixWithin 1048128) points) outlines → IsBetween (pos 1) (pos 1000) grid
+    → library_of (mask_tree head out grid outlines) ≡ outline_library head out grid outlines
+mask-described head out grid outlines header dates units fits near between =
     let first : after 0 (opening head out) ≡ first_shape head out = omega (arith, header, dates, units) in
     let layout : List ℕ → List Element → StreamLibrary = λ name elements. record { head = head; structures = record { name = name; elements = elements } ∷ [] } in
-    ap (λ name. layout name (flat_map elements_of (element_trees out grid (after 0 (opening head out)) rects)))
+    ap (λ name. layout name (flat_map elements_of (element_trees out grid (after 0 (opening head out)) outlines)))
     (padded-back out.name (length out.name % 2 == 0) out.name_is_plain)
     ∙ ap (λ elements. layout out.name elements)
-    (ap (λ n. flat_map elements_of (element_trees out grid n rects)) first
-    ∙ elements-made out grid (first_shape head out) rects fits near between)
+    (ap (λ n. flat_map elements_of (element_trees out grid n outlines)) first
+    ∙ elements-made out grid (first_shape head out) outlines fits near between)

@@ -1,26 +1,20 @@
 -- The mask file expands to the pixels of its rectangles.
-use Rattle.std.proofs.Common.{◌≡◌, ℕ, ◌+◌, ℤ, pos, negsuc, ◌<◌, ◌+ℤ◌, ◌-ℤ◌, ◌*ℤ◌, ◌≤ℤ◌, ◌<ℤ◌, unsigned_abs, true, ◌&&◌, ◌==◌, ◌||◌, List, [], ◌∷◌, zero, suc, map, All, refl, ap, ap₂, ◌∙◌, arith, add-one, eq-eqb}
+use Rattle.std.proofs.Common.{◌≡◌, ℕ, ◌+◌, ◌*◌, length, ℤ, pos, negsuc, ◌<◌, ◌+ℤ◌, ◌-ℤ◌, ◌*ℤ◌, ◌≤ℤ◌, ◌<ℤ◌, unsigned_abs, true, ◌&&◌, ◌==◌, ◌||◌, List, [], ◌∷◌, zero, suc, map, refl, ap, ap₂, ◌∙◌, arith, add-one, eq-eqb}
 use Rattle.std.specs.List.{flat_map}
 use Rattle.std.specs.Int.RustNames.{int_div, int_rem}
 use Rattle.std.proofs.Math.IntN.{suc_ℤ, suc_ℤ-*ℤ}
 use Rattle.std.proofs.lemmas.Int.{ints, quot-rem, rem_below, by_lt_z}
-use Rattle.std.proofs.lemmas.List.Elements.{All-head, All-tail}
-use Rattle.opc_base.specs.declared.plane.Rect.{Rect}
 use Rattle.opc_base.specs.declared.plane.Pix.{Pix}
 use Rattle.opc_base.specs.declared.outline.Outline.TheVariants.{Polygon}
 use Rattle.opc_base.specs.declared.rules.OutPick.{OutPick}
-use Rattle.opc_base.specs.Canonical.{IsSolid}
 use Rattle.opc_base.specs.Cover.{outline_cover}
-use Rattle.opc_base.specs.Plane.{cover}
 use Rattle.opc_base.specs.Target.{target}
 use Rattle.gds_records.specs.declared.library_head.Head.{Head}
 use Rattle.gds_model.specs.declared.elements.Structure.{Structure}
-use Rattle.gds_model.specs.Outlines.{outline_of, pixel_at, position_of}
+use Rattle.gds_model.specs.Outlines.{outline_of, pixel_at, placed_points, position_of}
 use Rattle.gds_model.specs.PlacedList.{Mapped, is_on, placed_by, placed_in}
-use Rattle.gds_writer.specs.MaskFile.{around}
-use Rattle.gds_writer.specs.MaskLibrary.{point_of, shapes, first_shape, mask_library}
+use Rattle.gds_writer.specs.MaskLibrary.{point_of, shapes, first_shape, outline_library}
 use Rattle.gds_writer.specs.Expansion.{expansion}
-use Rattle.gds_writer.proofs.Covered.{rect-covered}
 
 suc_is : (z : ℤ) → z +ℤ pos 1 ≡ suc_ℤ z
 suc_is (pos n) = ap pos (add-one n)
@@ -56,25 +50,24 @@ pixel-back grid p positive =
     ap₂ pixel (exact p.x grid positive) (exact p.y grid positive)
 
 pixels-back : (grid : ℤ) (points : List Pix) → pos 1 ≤ℤ grid
-    → map (λ p. pixel_at grid (position_of (point_of grid p))) points ≡ points
+    → map (pixel_at grid) (placed_points (λ p. p) (map (point_of grid) points)) ≡ points
 pixels-back grid [] positive = refl
 pixels-back grid (p ∷ points) positive = ap₂ (λ p points. p ∷ points) (pixel-back grid p positive) (pixels-back grid points positive)
 
 pub chosen : (out : OutPick) → (out.layer == out.layer && out.datatype == out.datatype) ≡ true
 chosen out = rw (eq-eqb out.layer out.layer refl, eq-eqb out.datatype out.datatype refl) refl
 
-shapes-covered : (library : List Structure) (inner : ℕ → List Mapped) (out : OutPick) (grid : ℤ) (at : ℕ) (rects : List Rect) (x y : ℤ)
-    → pos 1 ≤ℤ grid → All IsSolid rects
-    → target (map (outline_of grid) (flat_map (placed_by library (is_on out.layer out.datatype) inner) (shapes out grid at rects))) x y ≡ cover rects x y
-shapes-covered library inner out grid at [] x y positive solid = refl
-shapes-covered library inner out grid at (r ∷ rects) x y positive solid =
+shapes-covered : (library : List Structure) (inner : ℕ → List Mapped) (out : OutPick) (grid : ℤ) (at : ℕ) (outlines : List (List Pix)) (x y : ℤ)
+    → pos 1 ≤ℤ grid
+    → target (map (outline_of grid) (flat_map (placed_by library (is_on out.layer out.datatype) inner) (shapes out grid at outlines))) x y ≡ target (map Polygon outlines) x y
+shapes-covered library inner out grid at [] x y positive = refl
+shapes-covered library inner out grid at (points ∷ outlines) x y positive =
     let test = chosen out in
-    let rest = shapes-covered library inner out grid (at + 64) rects x y positive (All-tail IsSolid r rects solid) in
-    rw test (ap₂ (λ a b. a || b) (ap (λ points. outline_cover (Polygon points) x y) (pixels-back grid (around r) positive)
-    ∙ rect-covered r (All-head IsSolid r rects solid) x y) rest)
+    let rest = shapes-covered library inner out grid (at + (24 + 8 * length points)) outlines x y positive in
+    rw test (ap₂ (λ a b. a || b) (ap (λ points. outline_cover (Polygon points) x y) (pixels-back grid points positive)) rest)
 
-pub mask-expands : (head : Head) (out : OutPick) (grid : ℤ) (rects : List Rect) (x y : ℤ) → pos 1 ≤ℤ grid → All IsSolid rects
-    → expansion (mask_library head out grid rects) out.layer out.datatype grid x y ≡ cover rects x y
+pub outlines-expand : (head : Head) (out : OutPick) (grid : ℤ) (outlines : List (List Pix)) (x y : ℤ) → pos 1 ≤ℤ grid
+    → expansion (outline_library head out grid outlines) out.layer out.datatype grid x y ≡ target (map Polygon outlines) x y
 unfolding placed_in
-mask-expands head out grid rects x y positive solid =
-    shapes-covered (mask_library head out grid rects).structures (placed_in (mask_library head out grid rects).structures (is_on out.layer out.datatype) zero) out grid (first_shape head out) rects x y positive solid
+outlines-expand head out grid outlines x y positive =
+    shapes-covered (outline_library head out grid outlines).structures (placed_in (outline_library head out grid outlines).structures (is_on out.layer out.datatype) zero) out grid (first_shape head out) outlines x y positive

@@ -7,3 +7,4 @@ pub mod Expands
 pub mod KindCodes
 pub mod NoFault
 pub mod PlacedRight
+pub mod Said

@@ -1,14 +1,14 @@
 -- Nothing is wrong with a mask file.
-use Rattle.std.proofs.Common.{◌≡◌, ◌≢◌, ℕ, ◌+◌, ◌/◌, ◌%◌, ◌≤◌, ◌==◌, Bool, true, false, cond, List, [], ◌∷◌, ◌++◌, length, All, refl, ap, sym, ◌∙◌, subst, arith, append_assoc, length-append}
+use Rattle.std.proofs.Common.{◌≡◌, ◌≢◌, ℕ, ◌+◌, ◌/◌, ◌%◌, ◌≤◌, ◌==◌, ◌&&◌, nat_le, le-leb, Bool, true, false, cond, List, [], ◌∷◌, ◌++◌, length, All, refl, ap, sym, ◌∙◌, subst, arith, append_assoc, length-append}
 use Rattle.std.specs.Prelude.{ℤ, IsTrue, if◌then◌else◌}
 use Rattle.std.specs.Int.{w16, to_be_bytes}
 use Rattle.std.specs.List.{Contains, flat_map}
 use Rattle.std.proofs.Math.Bool.{or-true}
 use Rattle.std.proofs.lemmas.Bool.{eq-eqb, ne_eqb, true≢false}
 use Rattle.std.proofs.lemmas.List.{append-nil}
-use Rattle.std.proofs.lemmas.List.Elements.{All-head}
+use Rattle.std.proofs.lemmas.List.Elements.{All-head, All-tail}
 use Rattle.std.proofs.lemmas.List.Sums.{fold-append}
-use Rattle.opc_base.specs.declared.plane.Rect.{Rect}
+use Rattle.opc_base.specs.declared.plane.Pix.{Pix}
 use Rattle.opc_base.specs.declared.rules.OutPick.{OutPick}
 use Rattle.opc_base.specs.Ranges.{is_name_byte}
 use Rattle.gds_records.specs.declared.library_head.Head.{Head}
@@ -17,11 +17,12 @@ use Rattle.gds_records.specs.Written.{record_bytes}
 use Rattle.gds_model.specs.declared.record_kind.RecordKind.{RecordKind}
 use Rattle.gds_model.specs.declared.record_kind.RecordKind.TheVariants.{Header, BgnLib, LibName, Units, EndLib, BgnStr, StrName, EndStr, Boundary, Layer, Datatype, Xy, EndEl}
 use Rattle.gds_model.specs.RecordKind.{code_of}
-use Rattle.gds_model.specs.Body.{body_of_kind, fits, points, element_kinds, is_one_of}
+use Rattle.gds_model.specs.Body.{body_of_kind, fits, element_kinds, is_one_of}
 use Rattle.gds_model.specs.Names.{has_nonzero, name_of}
 use Rattle.gds_model.specs.StreamFile.{IsSentence, IsPrefix}
 use Rattle.gds_model.specs.Faults.{unexpected, one_too_many, bad_body, duplicate, IsFine, AllFine, HasNoFaultOf, HasNoFault, structure_count, element_of, names_of, has_end}
-use Rattle.gds_writer.specs.MaskFile.{MaskRecord, bytes_of, point_bytes, around, boundary, opening, closing, mask_records, mask_file, standing}
+use Rattle.gds_writer.specs.MaskFile.{MaskRecord, bytes_of, point_bytes, boundary, opening, closing, outline_records, outline_file, standing}
+use Rattle.gds_writer.proofs.ReadBack.{length-points}
 use Rattle.gds_writer.proofs.KindCodes.{code_same}
 use Rattle.gds_writer.proofs.Sentence.{after, standing-append, mask_tree, mask-spelled}
 
@@ -123,12 +124,20 @@ element_after : (before : List StreamRecord) (r : StreamRecord)
     → element_of (before ++ r ∷ []) ≡ (if is_one_of element_kinds r.code then r.code else element_of before)
 element_after before r = fold-append _ 0 before (r ∷ [])
 
-boundary-right : (before : List StreamRecord) (at : ℕ) (out : OutPick) (grid : ℤ) (r : Rect) → AreRight before at (boundary out grid r)
-boundary-right before at out grid r =
+points-fit : (grid : ℤ) (outline : List Pix) → 1 ≤ length outline → (nat_le 8 (length (flat_map (point_bytes grid) outline)) && (length (flat_map (point_bytes grid) outline) % 8 == 0)) ≡ true
+points-fit grid outline some =
+    let size = length-points grid outline in
+    let rest : length (flat_map (point_bytes grid) outline) % 8 ≡ 0 = omega arith in
+    let enough : 8 ≤ length (flat_map (point_bytes grid) outline) = omega arith in
+    rw (le-leb _ _ enough, eq-eqb _ _ rest) refl
+
+boundary-right : (before : List StreamRecord) (at : ℕ) (out : OutPick) (grid : ℤ) (outline : List Pix) → 1 ≤ length outline
+    → AreRight before at (boundary out grid outline)
+boundary-right before at out grid outline some =
     let a : StreamRecord = record { offset = at; code = code_of Boundary; body = [] } in
     let b : StreamRecord = record { offset = at + 4 + 0; code = code_of Layer; body = to_be_bytes w16 out.layer } in
     let c : StreamRecord = record { offset = at + 4 + 0 + 4 + 2; code = code_of Datatype; body = to_be_bytes w16 out.datatype } in
-    let body = flat_map (point_bytes grid) (around r) in
+    let body = flat_map (point_bytes grid) outline in
     let element : element_of (((before ++ a ∷ []) ++ b ∷ []) ++ c ∷ []) ≡ code_of Boundary =
     element_after ((before ++ a ∷ []) ++ b ∷ []) c ∙ element_after (before ++ a ∷ []) b ∙ element_after before a in (
       other_right _ Boundary [] (omega arith) (omega arith) refl,
@@ -137,32 +146,33 @@ boundary-right before at out grid r =
         (
           other_right _ Datatype _ (omega arith) (omega arith) refl,
           (
-            other_right _ Xy body (omega arith) (omega arith) (ap (λ n. fits points n body) element),
+            other_right _ Xy body (omega arith) (omega arith) (ap (λ n. fits (body_of_kind Xy) n body) element ∙ points-fit grid outline some),
             (other_right _ EndEl [] (omega arith) (omega arith) refl, tt),
           ),
         ),
       ),
     )
 
-elements-right : (before : List StreamRecord) (at : ℕ) (out : OutPick) (grid : ℤ) (rects : List Rect)
-    → AreRight before at (flat_map (boundary out grid) rects)
-elements-right before at out grid [] = tt
-elements-right before at out grid (r ∷ rects) =
-    AreRight-append before at (boundary out grid r) (flat_map (boundary out grid) rects) (boundary-right before at out grid r)
-    (elements-right (before ++ standing at (boundary out grid r)) (after at (boundary out grid r)) out grid rects)
+elements-right : (before : List StreamRecord) (at : ℕ) (out : OutPick) (grid : ℤ) (outlines : List (List Pix)) → All (λ outline. 1 ≤ length outline) outlines
+    → AreRight before at (flat_map (boundary out grid) outlines)
+elements-right before at out grid [] some = tt
+elements-right before at out grid (outline ∷ outlines) some =
+    AreRight-append before at (boundary out grid outline) (flat_map (boundary out grid) outlines)
+    (boundary-right before at out grid outline (All-head (λ outline. 1 ≤ length outline) outline outlines some))
+    (elements-right (before ++ standing at (boundary out grid outline)) (after at (boundary out grid outline)) out grid outlines (All-tail (λ outline. 1 ≤ length outline) outline outlines some))
 
 closing-right : (before : List StreamRecord) (at : ℕ) → AreRight before at closing
 closing-right before at =
     (other_right _ EndStr [] (omega arith) (omega arith) refl, (other_right _ EndLib [] (omega arith) (omega arith) refl, tt))
 
-records-right : (head : Head) (out : OutPick) (grid : ℤ) (rects : List Rect) → length head.header ≡ 2 → length head.dates ≡ 24
-    → length head.units ≡ 16 → AreRight [] 0 (mask_records head out grid rects)
-records-right head out grid rects header dates units =
-    let elements = flat_map (boundary out grid) rects in
+records-right : (head : Head) (out : OutPick) (grid : ℤ) (outlines : List (List Pix)) → length head.header ≡ 2 → length head.dates ≡ 24
+    → length head.units ≡ 16 → All (λ outline. 1 ≤ length outline) outlines → AreRight [] 0 (outline_records head out grid outlines)
+records-right head out grid outlines header dates units some =
+    let elements = flat_map (boundary out grid) outlines in
     let before = standing 0 (opening head out) in
     let at = after 0 (opening head out) in
     AreRight-append [] 0 (opening head out) (elements ++ closing) (opening-right head out header dates units)
-    (AreRight-append before at elements closing (elements-right before at out grid rects)
+    (AreRight-append before at elements closing (elements-right before at out grid outlines some)
     (closing-right (before ++ standing at elements) (after at elements)))
 
 -- ---- behind the records
@@ -182,19 +192,19 @@ stop-after at (r ∷ rs) =
     let size = length-append (record_bytes (code_of r.kind / 256) (code_of r.kind % 256) r.body) (bytes_of rs) in
     omega (arith, rest, size)
 
-pub mask-no_fault : (head : Head) (out : OutPick) (grid : ℤ) (rects : List Rect) → length head.header ≡ 2 → length head.dates ≡ 24
-    → length head.units ≡ 16 → records_from (mask_file head out grid rects) 0 ≡ standing 0 (mask_records head out grid rects)
-    → HasNoFault (mask_file head out grid rects)
-mask-no_fault head out grid rects header dates units read =
-    let records = mask_records head out grid rects in
-    let bytes = mask_file head out grid rects in
-    let same : (opening head out ++ flat_map (boundary out grid) rects) ++ closing ≡ records =
-    append_assoc (opening head out) (flat_map (boundary out grid) rects) closing in
-    let sentence : IsSentence (standing 0 records) = (mask_tree head out grid rects, mask-spelled head out grid rects) in
+pub mask-no_fault : (head : Head) (out : OutPick) (grid : ℤ) (outlines : List (List Pix)) → length head.header ≡ 2 → length head.dates ≡ 24
+    → length head.units ≡ 16 → All (λ outline. 1 ≤ length outline) outlines → records_from (outline_file head out grid outlines) 0 ≡ standing 0 (outline_records head out grid outlines)
+    → HasNoFault (outline_file head out grid outlines)
+mask-no_fault head out grid outlines header dates units some read =
+    let records = outline_records head out grid outlines in
+    let bytes = outline_file head out grid outlines in
+    let same : (opening head out ++ flat_map (boundary out grid) outlines) ++ closing ≡ records =
+    append_assoc (opening head out) (flat_map (boundary out grid) outlines) closing in
+    let sentence : IsSentence (standing 0 records) = (mask_tree head out grid outlines, mask-spelled head out grid outlines) in
     let stop = stop-after 0 records in
     let no_fault : HasNoFaultOf bytes (standing 0 records) = (
-      all_fine [] 0 records (records-right head out grid rects header dates units) sentence,
-      subst (λ l. has_end (standing 0 l) ≡ true) same (ended 0 (opening head out ++ flat_map (boundary out grid) rects)),
+      all_fine [] 0 records (records-right head out grid outlines header dates units some) sentence,
+      subst (λ l. has_end (standing 0 l) ≡ true) same (ended 0 (opening head out ++ flat_map (boundary out grid) outlines)),
       λ i behind within. absurd (omega (arith, stop)),
     ) in
     let P : List StreamRecord → Type 0 = λ rs. HasNoFaultOf bytes rs in

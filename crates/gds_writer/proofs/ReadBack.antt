@@ -4,7 +4,7 @@ use Rattle.std.specs.Prelude.{ℤ, ◌==◌, if◌then◌else◌}
 use Rattle.std.specs.List.{flat_map}
 use Rattle.std.proofs.lemmas.Bool.{ne_eqb, eqb-false}
 use Rattle.std.proofs.lemmas.Bool.Decides.{nat_tests}
-use Rattle.opc_base.specs.declared.plane.Rect.{Rect}
+use Rattle.opc_base.specs.declared.plane.Pix.{Pix}
 use Rattle.opc_base.specs.declared.rules.OutPick.{OutPick}
 use Rattle.gds_records.specs.declared.library_head.Head.{Head}
 use Rattle.gds_records.specs.Records.{StandsAt, ENDLIB, records_from}
@@ -13,7 +13,7 @@ use Rattle.gds_records.proofs.RecordsLemmas.{record_at-some, records_from-some}
 use Rattle.gds_records.proofs.WrittenLemmas.{written_stands}
 use Rattle.gds_model.specs.declared.record_kind.RecordKind.TheVariants.{EndStr, EndLib}
 use Rattle.gds_model.specs.RecordKind.{code_of}
-use Rattle.gds_writer.specs.MaskFile.{MaskRecord, record_of, bytes_of, padded, boundary, opening, mask_records, mask_file, standing}
+use Rattle.gds_writer.specs.MaskFile.{MaskRecord, record_of, bytes_of, padded, point_bytes, boundary, opening, outline_records, outline_file, standing}
 
 -- each body has an even length, and no record is ENDLIB
 abbrev pub CanGoOn : List MaskRecord → Type 0
@@ -68,22 +68,29 @@ padded-case name false e =
 padded-even : (name : List ℕ) → length (padded name) % 2 ≡ 0
 padded-even name = padded-case name (length name % 2 == 0) refl
 
-elements-go_on : (out : OutPick) (grid : ℤ) (rects : List Rect) → CanGoOn (flat_map (boundary out grid) rects)
+-- each point takes eight bytes
+pub length-points : (grid : ℤ) (points : List Pix) → length (flat_map (point_bytes grid) points) ≡ 8 * length points
+length-points grid [] = refl
+length-points grid (p ∷ points) = let rest = length-points grid points in omega arith
+
+elements-go_on : (out : OutPick) (grid : ℤ) (outlines : List (List Pix)) → CanGoOn (flat_map (boundary out grid) outlines)
 elements-go_on out grid [] = tt
-elements-go_on out grid (r ∷ rects) =
-    CanGoOn-append (boundary out grid r) (flat_map (boundary out grid) rects)
-    (refl, omega arith, (refl, omega arith, (refl, omega arith, (refl, omega arith, (refl, omega arith, tt)))))
-    (elements-go_on out grid rects)
+elements-go_on out grid (points ∷ outlines) =
+    let size = length-points grid points in
+    let even : length (flat_map (point_bytes grid) points) % 2 ≡ 0 = omega arith in
+    CanGoOn-append (boundary out grid points) (flat_map (boundary out grid) outlines)
+    (refl, omega arith, (refl, omega arith, (refl, omega arith, (even, omega arith, (refl, omega arith, tt)))))
+    (elements-go_on out grid outlines)
 
 -- the mask file has exactly its records
-pub mask_read_back : (head : Head) (out : OutPick) (grid : ℤ) (rects : List Rect) → length head.header ≡ 2 → length head.dates ≡ 24
+pub mask_read_back : (head : Head) (out : OutPick) (grid : ℤ) (outlines : List (List Pix)) → length head.header ≡ 2 → length head.dates ≡ 24
     → length head.name % 2 ≡ 0 → length head.units ≡ 16
-    → records_from (mask_file head out grid rects) 0 ≡ standing 0 (mask_records head out grid rects)
-mask_read_back head out grid rects header dates name units =
-    let elements = flat_map (boundary out grid) rects in
+    → records_from (outline_file head out grid outlines) 0 ≡ standing 0 (outline_records head out grid outlines)
+mask_read_back head out grid outlines header dates name units =
+    let elements = flat_map (boundary out grid) outlines in
     let records : List MaskRecord = opening head out ++ (elements ++ record_of EndStr [] ∷ []) in
     let last : List MaskRecord = record_of EndLib [] ∷ [] in
-    let same : records ++ last ≡ mask_records head out grid rects =
+    let same : records ++ last ≡ outline_records head out grid outlines =
     ap (λ l. opening head out ++ l) (append_assoc elements (record_of EndStr [] ∷ []) last) in
     let opened : CanGoOn (opening head out) = (
       omega (arith, header),
@@ -103,5 +110,5 @@ mask_read_back head out grid rects header dates name units =
       ),
     ) in
     let go_on = CanGoOn-append (opening head out) (elements ++ record_of EndStr [] ∷ []) opened
-    (CanGoOn-append elements (record_of EndStr [] ∷ []) (elements-go_on out grid rects) (refl, omega arith, tt)) in
+    (CanGoOn-append elements (record_of EndStr [] ∷ []) (elements-go_on out grid outlines) (refl, omega arith, tt)) in
     subst (λ l. records_from (bytes_of l) 0 ≡ standing 0 l) same (read_back [] records go_on)

@@ -2,3 +2,4 @@ pub mod MaskFile
 pub mod MaskLibrary
 pub mod Expansion
 pub mod Faultless
+pub mod Outlines

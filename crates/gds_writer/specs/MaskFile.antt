@@ -1,5 +1,5 @@
 -- The bytes of a mask file.
-use Rattle.std.specs.Prelude.{ℕ, ℤ, ◌+◌, ◌*ℤ◌, ◌/◌, ◌%◌, ◌==◌, if◌then◌else◌, List, [], ◌∷◌, ◌++◌, length}
+use Rattle.std.specs.Prelude.{ℕ, ℤ, ◌+◌, ◌*ℤ◌, ◌/◌, ◌%◌, ◌==◌, if◌then◌else◌, List, [], ◌∷◌, ◌++◌, length, map}
 use Rattle.std.specs.List.{flat_map}
 use Rattle.std.specs.Int.{w16, w32, cast_unsigned, to_be_bytes}
 use Rattle.opc_base.specs.declared.plane.Pix.{Pix}
@@ -38,11 +38,11 @@ around r =
     record { x = r.x0; y = r.y0 } ∷ record { x = r.x1; y = r.y0 } ∷ record { x = r.x1; y = r.y1 } ∷ record { x = r.x0; y = r.y1 }
     ∷ record { x = r.x0; y = r.y0 } ∷ []
 
--- the element of a rectangle
-abbrev pub boundary : OutPick → ℤ → Rect → List MaskRecord
-boundary out grid r =
+-- the element of an outline through these points
+abbrev pub boundary : OutPick → ℤ → List Pix → List MaskRecord
+boundary out grid points =
     record_of Boundary [] ∷ record_of Layer (to_be_bytes w16 out.layer) ∷ record_of Datatype (to_be_bytes w16 out.datatype)
-    ∷ record_of Xy (flat_map (point_bytes grid) (around r)) ∷ record_of EndEl [] ∷ []
+    ∷ record_of Xy (flat_map (point_bytes grid) points) ∷ record_of EndEl [] ∷ []
 
 -- what stands before the elements
 abbrev pub opening : Head → OutPick → List MaskRecord
@@ -54,13 +54,21 @@ opening head out =
 abbrev pub closing : List MaskRecord
 closing = record_of EndStr [] ∷ record_of EndLib [] ∷ []
 
+-- the records of the file of these outlines
+abbrev pub outline_records : Head → OutPick → ℤ → List (List Pix) → List MaskRecord
+outline_records head out grid outlines = opening head out ++ (flat_map (boundary out grid) outlines ++ closing)
+
+-- the file of these outlines
+abbrev pub outline_file : Head → OutPick → ℤ → List (List Pix) → List ℕ
+outline_file head out grid outlines = bytes_of (outline_records head out grid outlines)
+
 -- the records of the mask file of these rectangles
 abbrev pub mask_records : Head → OutPick → ℤ → List Rect → List MaskRecord
-mask_records head out grid rects = opening head out ++ (flat_map (boundary out grid) rects ++ closing)
+mask_records head out grid rects = outline_records head out grid (map around rects)
 
 -- the mask file of these rectangles
 abbrev pub mask_file : Head → OutPick → ℤ → List Rect → List ℕ
-mask_file head out grid rects = bytes_of (mask_records head out grid rects)
+mask_file head out grid rects = outline_file head out grid (map around rects)
 
 -- these records one after another from an offset on, as they are read
 abbrev pub standing : ℕ → List MaskRecord → List StreamRecord

@@ -1,5 +1,5 @@
 -- The layout that a mask file describes.
-use Rattle.std.specs.Prelude.{ℕ, ℤ, ◌+◌, ◌*ℤ◌, List, [], ◌∷◌, length, map}
+use Rattle.std.specs.Prelude.{ℕ, ℤ, ◌+◌, ◌*◌, ◌*ℤ◌, List, [], ◌∷◌, length, map}
 use Rattle.opc_base.specs.declared.plane.Pix.{Pix}
 use Rattle.opc_base.specs.declared.plane.Rect.{Rect}
 use Rattle.opc_base.specs.declared.rules.OutPick.{OutPick}
@@ -15,21 +15,25 @@ use Rattle.gds_writer.specs.MaskFile.{around, padded}
 abbrev pub point_of : ℤ → Pix → Point
 point_of grid p = record { x = p.x *ℤ grid; y = p.y *ℤ grid }
 
--- the BOUNDARYs of rectangles, each of which takes 64 bytes of the file
-abbrev pub shapes : OutPick → ℤ → ℕ → List Rect → List Element
+-- the BOUNDARYs of outlines, each of which takes 24 bytes of the file, and 8 for each point
+abbrev pub shapes : OutPick → ℤ → ℕ → List (List Pix) → List Element
 shapes out grid at [] = []
-shapes out grid at (r ∷ rects) =
+shapes out grid at (points ∷ outlines) =
     element.Shape
-    (record { offset = at; kind = shape_kind.Boundary; layer = out.layer; datatype = out.datatype; points = map (point_of grid) (around r) })
-    ∷ shapes out grid (at + 64) rects
+    (record { offset = at; kind = shape_kind.Boundary; layer = out.layer; datatype = out.datatype; points = map (point_of grid) points })
+    ∷ shapes out grid (at + (24 + 8 * length points)) outlines
 
 -- where the first of them stands
 abbrev pub first_shape : Head → OutPick → ℕ
 first_shape head out = 90 + length head.name + length (padded out.name)
 
+-- one structure, with a BOUNDARY for each outline
+abbrev pub outline_library : Head → OutPick → ℤ → List (List Pix) → StreamLibrary
+outline_library head out grid outlines = record {
+  head = head;
+  structures = record { name = out.name; elements = shapes out grid (first_shape head out) outlines } ∷ [];
+}
+
 -- one structure, with a BOUNDARY for each rectangle
 abbrev pub mask_library : Head → OutPick → ℤ → List Rect → StreamLibrary
-mask_library head out grid rects = record {
-  head = head;
-  structures = record { name = out.name; elements = shapes out grid (first_shape head out) rects } ∷ [];
-}
+mask_library head out grid rects = outline_library head out grid (map around rects)

@@ -1,35 +1,36 @@
-//! The element of a rectangle.
-ghost use Rattle.std.specs.Prelude.{◌≡◌, ◌<◌, ◌≤◌, ◌++◌, pos, IfOk, OnOk};
+//! The element of an outline.
+ghost use Rattle.std.specs.Prelude.{◌≡◌, ◌<◌, ◌≤◌, ◌++◌, pos, length, All, IfOk, OnOk};
 ghost use Rattle.std.specs.Int.{w16, to_be_bytes};
 ghost use Rattle.std.specs.List.{flat_map};
 ghost use Rattle.opc_base.specs.Plane.{IsPixWithin, IsRectWithin};
 ghost use Rattle.opc_base.specs.Ranges.{IsBetween};
 ghost use Rattle.gds_writer.specs.MaskFile.{around, boundary, bytes_of, point_bytes};
+ghost use Rattle.gds_writer.specs.Outlines.{IsOutline};
 
 use gds_records::put_record;
 use opc_base::{Bytes, NoMemory, OutPick, Pix, Rect};
 use std::alloc::Global;
 
-/// Appends BOUNDARY, LAYER, DATATYPE, XY and ENDEL of a rectangle.
+/// Appends BOUNDARY, LAYER, DATATYPE, XY and ENDEL of an outline.
 pub fn put_boundary(
     alloc: Global,
     file: &mut Bytes,
     out: &OutPick,
-    rect: &Rect,
+    points: &[Pix],
     grid: i32,
 ) -> Result<(), NoMemory>
-    requires rect { IsRectWithin 1048128 rect.now }
+    requires outline { IsOutline points.now }
     requires grid { IsBetween (pos 1) (pos 1000) grid }
-    ensures written { OnOk result (file.new ≡ file.old ++ bytes_of (boundary out.now grid rect.now)) }
+    ensures written { OnOk result (file.new ≡ file.old ++ bytes_of (boundary out.now grid points.now)) }
     ensures fits { (out.now.layer < 65536) × (out.now.datatype < 65536) }
 {
     let layer = number_bytes(out.layer);
     let datatype = number_bytes(out.datatype);
-    let points = outline_bytes(alloc, rect, grid)?;
+    let body = outline_bytes(alloc, points, grid)?;
     put_record(alloc, file, 0x08, 0x00, &[])?;
     put_record(alloc, file, 0x0D, 0x02, &layer)?;
     put_record(alloc, file, 0x0E, 0x02, &datatype)?;
-    put_record(alloc, file, 0x10, 0x03, points.as_slice())?;
+    put_record(alloc, file, 0x10, 0x03, body.as_slice())?;
     put_record(alloc, file, 0x11, 0x00, &[])
 }
 
@@ -41,22 +42,25 @@ fn number_bytes(number: u16) -> [u8; 2]
     number.to_be_bytes()
 }
 
-/// The points around a rectangle.
-fn outline_bytes(alloc: Global, rect: &Rect, grid: i32) -> Result<Vec<u8>, NoMemory>
-    requires rect { IsRectWithin 1048128 rect.now }
+/// The points of an outline.
+fn outline_bytes(alloc: Global, points: &[Pix], grid: i32) -> Result<Vec<u8>, NoMemory>
+    requires within { All (IsPixWithin 1048128) points.now }
+    requires few { length points.now ≤ 8191 }
     requires grid { IsBetween (pos 1) (pos 1000) grid }
-    ensures { IfOk result (λ body. body.items ≡ flat_map (point_bytes grid) (around rect.now)) }
+    ensures { IfOk result (λ body. body.items ≡ flat_map (point_bytes grid) points.now) }
 {
-    let mut body = Vec::with_capacity(alloc, 40)?;
-    for point in around(rect) {
-        body.extend_from_slice(&point_bytes(point, grid))?;
+    let mut body = Vec::with_capacity(alloc, 8 * points.len())?;
+    for point in points {
+        body.extend_from_slice(&point_bytes(*point, grid))?;
     }
     Ok(body)
 }
 
 /// The corners of a rectangle, from the lower left counterclockwise, and the first again.
-fn around(rect: &Rect) -> [Pix; 5]
-    ensures { result ≡ around rect.now }
+pub fn around(rect: &Rect) -> [Pix; 5]
+    requires rect { IsRectWithin 1048128 rect.now }
+    ensures points { result ≡ around rect.now }
+    ensures outline { IsOutline result }
 {
     let Rect { x0, y0, x1, y1 } = *rect;
     [

@@ -24,5 +24,7 @@
 mod boundary;
 mod mask;
 mod opening;
+mod outlines;
 
 pub use mask::write_mask;
+pub use outlines::write_outlines;

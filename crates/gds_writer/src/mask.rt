@@ -9,8 +9,8 @@ ghost use Rattle.gds_writer.specs.Faultless.{IsFaultless};
 ghost use Rattle.gds_writer.specs.MaskLibrary.{mask_library};
 ghost use Rattle.gds_writer.specs.MaskFile.{mask_file, mask_records, padded, standing};
 
-use crate::boundary::put_boundary;
-use crate::opening::put_opening;
+use crate::boundary::{around, put_boundary};
+use crate::opening::{frame_size, put_opening};
 use gds_records::{Head, put_record};
 use opc_base::{Bytes, NoMemory, OutPick, Region};
 use std::alloc::Global;
@@ -41,7 +41,8 @@ pub fn write_mask(
     let mut file = Bytes::from_vec(Vec::with_capacity(alloc, size)?);
     put_opening(alloc, &mut file, head, out)?;
     for rect in region.rects() {
-        put_boundary(alloc, &mut file, out, rect, grid)?;
+        let corners = around(rect);
+        put_boundary(alloc, &mut file, out, &corners, grid)?;
     }
     put_record(alloc, &mut file, 0x07, 0x00, &[])?;
     put_record(alloc, &mut file, 0x04, 0x00, &[])?;
@@ -53,8 +54,6 @@ fn file_size(head: &Head, region: &Region, out: &OutPick) -> usize
     requires name { length head.now.name ≤ 65530 }
     ensures { result ≡ min (98 + length head.now.name + length (padded out.now.name) + 64 * length region.now) (2 ^ 64 - 1) }
 {
-    let name = out.name.as_slice().len();
-    let frame = 98 + head.name.as_slice().len() + name + name % 2;
     let elements = region.rects().len().saturating_mul(64);
-    elements.saturating_add(frame)
+    elements.saturating_add(frame_size(head, out))
 }

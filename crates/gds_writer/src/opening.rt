@@ -1,5 +1,5 @@
 //! What stands before the elements.
-ghost use Rattle.std.specs.Prelude.{◌≡◌, ◌≤◌, ◌%◌, ◌++◌, length, IfOk, OnOk};
+ghost use Rattle.std.specs.Prelude.{◌≡◌, ◌≤◌, ◌+◌, ◌%◌, ◌++◌, length, IfOk, OnOk};
 ghost use Rattle.gds_writer.specs.MaskFile.{bytes_of, opening, padded};
 
 use gds_records::{Head, put_record};
@@ -39,4 +39,13 @@ fn padded(alloc: Global, name: &Name) -> Result<Vec<u8>, NoMemory>
         body.push(0)?;
     }
     Ok(body)
+}
+
+/// How many bytes of a file stand before its elements and behind them.
+pub fn frame_size(head: &Head, out: &OutPick) -> usize
+    requires name { length head.now.name ≤ 65530 }
+    ensures { result ≡ 98 + length head.now.name + length (padded out.now.name) }
+{
+    let name = out.name.as_slice().len();
+    98 + head.name.as_slice().len() + name + name % 2
 }

@@ -2,6 +2,7 @@
 ghost use Rattle.std.specs.Prelude.{◌≡◌, ◌<◌, ℤ, All, IfOk, length};
 ghost use Rattle.opc_base.specs.Plane.{IsRectWithin, cover};
 ghost use Rattle.mask_rules.specs.TargetRules.{KeepsTarget};
+ghost use Rattle.outline_model.specs.Fragmentation.{AreFragments};
 ghost use Rattle.outline_model.specs.Target.{IsBoundary};
 
 use crate::fault::RowFault;
@@ -120,6 +121,7 @@ pub fn target_fragments(
     requires { All (IsRectWithin 1048000) region.now }
     ensures keeps { IfOk result (λ _. KeepsTarget rules.now (cover region.now)) }
     ensures boundary { IfOk result (IsBoundary (cover region.now)) }
+    ensures cut { IfOk result (AreFragments (cover region.now) cut_rules.now) }
 {
     if check_target(alloc, region, rules)?.is_some() {
         return Err(RowFault::BreaksRules);

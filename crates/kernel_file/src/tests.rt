@@ -8,7 +8,7 @@ use std::alloc::{AllocError, Global};
 use std::process::Abort;
 use std::test::Fail;
 
-/// A place outside of the files here.
+/// A change of nothing: no file here has this place.
 const NOWHERE: (usize, u16) = (1000, 0);
 
 /// A file whose kernels are all equal: the magic, the numbers before the kernels, and for each kernel its weight and so
@@ -33,12 +33,15 @@ fn file_of(
     Ok(file)
 }
 
-fn put(file: &mut [u8], (place, number): (usize, u16)) {
-    if place < file.len() && file.len() - place >= 2 {
-        let [high, low] = number.to_be_bytes();
-        file[place] = high;
-        file[place + 1] = low;
+/// Writes a number at a place of the file.
+fn put(rt: &impl Abort, file: &mut [u8], (place, number): (usize, u16)) {
+    if place == NOWHERE.0 {
+        return;
     }
+    assert!(rt; place < file.len() && file.len() - place >= 2, "{place}");
+    let [high, low] = number.to_be_bytes();
+    file[place] = high;
+    file[place + 1] = low;
 }
 
 /// What reading gives: how many kernels, or the fault.
@@ -49,14 +52,15 @@ fn outcome(alloc: Global, file: &[u8]) -> Result<usize, KernelFault> {
 
 /// What reading gives after two changes of the file.
 fn outcome_of(
+    rt: &impl Abort,
     alloc: Global,
     file: &[u8],
     first: (usize, u16),
     second: (usize, u16),
 ) -> Result<Result<usize, KernelFault>, AllocError> {
     let mut file = file.to_vec(alloc)?;
-    put(&mut file, first);
-    put(&mut file, second);
+    put(rt, &mut file, first);
+    put(rt, &mut file, second);
     Ok(outcome(alloc, &file))
 }
 
@@ -142,7 +146,7 @@ fn cases_of_second_format() -> [Case; 12] {
 
 fn judge(rt: &impl Abort, alloc: Global, file: &[u8], cases: &[Case]) -> Result<(), AllocError> {
     for (first, second, wanted) in cases {
-        let found = outcome_of(alloc, file, *first, *second)?;
+        let found = outcome_of(rt, alloc, file, *first, *second)?;
         assert_eq!(rt; found, *wanted, "{first:?} {second:?}");
     }
     Ok(())

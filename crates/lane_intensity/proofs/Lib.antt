@@ -1,5 +1,5 @@
 mod CornerSums
 mod PowerSums
 mod RectLaws
-mod Vectors
+pub mod Vectors
 pub mod WeightLaws

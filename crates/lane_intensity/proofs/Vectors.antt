@@ -51,7 +51,7 @@ module _ (m n : ℕ) (f g : ℕ → ℤ) (v w : List ℕ) (room : m + n < 2 ^ 63
   fits_right : (k : ℕ) → k < 8 → SFits w64 (g k)
   fits_right k below = fits_by n (g k) (right.small k below) (omega arith)
 
-  asks_add : asks (add signed) v w
+  pub asks_add : asks (add signed) v w
   asks_add = each2_from _ v w 0 0 (left.count ∙ sym right.count) (λ k below. at_lane k (omega (arith, left.count)))
     where
       at_lane : (k : ℕ) → k < 8 → SFits w64 (to_z w64 (get_or v k 0) +ℤ to_z w64 (get_or w k 0))
@@ -59,7 +59,7 @@ module _ (m n : ℕ) (f g : ℕ → ℤ) (v w : List ℕ) (room : m + n < 2 ^ 63
           rw (left.each k below, right.each k below, to_z-of_z (fits_left k below), to_z-of_z (fits_right k below))
           (fits_by (m + n) (f k +ℤ g k) (omega (arith, ints, left.small k below, right.small k below)) room)
 
-  asks_sub : asks (sub signed) v w
+  pub asks_sub : asks (sub signed) v w
   asks_sub = each2_from _ v w 0 0 (left.count ∙ sym right.count) (λ k below. at_lane k (omega (arith, left.count)))
     where
       at_lane : (k : ℕ) → k < 8 → SFits w64 (to_z w64 (get_or v k 0) -ℤ to_z w64 (get_or w k 0))

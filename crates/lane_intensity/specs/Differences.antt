@@ -20,8 +20,8 @@ pub record AreLanes (n most : ℕ) (lanes : List ℤ) : Type 0 where
   pub small : (lane : ℕ) → lane < n → unsigned_abs (slice_index_or lanes lane (pos 0)) ≤ most
 
 -- coordinates at most this far from 0, and a sign from -2 to 2
-abbrev pub IsCornerWithin : ℕ → Corner → Type 0
-IsCornerWithin most c = (unsigned_abs c.x ≤ most) × (unsigned_abs c.y ≤ most) × (unsigned_abs c.sign ≤ 2)
+abbrev pub IsCornerInRange : ℕ → Corner → Type 0
+IsCornerInRange most c = (unsigned_abs c.x ≤ most) × (unsigned_abs c.y ≤ most) × (unsigned_abs c.sign ≤ 2)
 
 -- what a corner adds to a lane, as the pixel (x, y) sees it
 abbrev pub corner_change : KernelSet → Corner → ℤ → ℤ → ℕ → ℤ

@@ -4,7 +4,7 @@ ghost use Rattle.std.specs.Prelude.{◌≡◌, ℕ, ℤ, ◌+◌, ◌^◌, ◌<�
 ghost use Rattle.opc_base.specs.Changes.{RisesBetween, RisesBy};
 ghost use Rattle.opc_base.specs.Lanes.{AddUpNear, LanesAre, amplitude_of_lane, corners_change, ground_of_lane, lane_count, part_of_lane};
 ghost use Rattle.opc_base.specs.Plane.{IsPixWithin, PixelSet};
-ghost use Rattle.lane_intensity.specs.Differences.{AreLanes, IsCornerWithin, corner_change, times_lane};
+ghost use Rattle.lane_intensity.specs.Differences.{AreLanes, IsCornerInRange, corner_change, times_lane};
 
 use opc_base::{Corner, Pix, Steps};
 use prefix_tables::Tables;
@@ -22,7 +22,7 @@ pub fn add_corners<L: Ledger>(
     steps: &mut Steps<L>,
 )
     requires lanes { AreLanes (lane_count tables.now) (2 ^ 62) acc.old }
-    requires corners { All (IsCornerWithin 1050000) corners.now }
+    requires corners { All (IsCornerInRange 1050000) corners.now }
     requires few { length corners.now ≤ 1048576 }
     requires at { IsPixWithin 1050000 at }
     ensures rises { RisesBy (corners_change tables.now corners.now at.x at.y) 0 acc.old acc.new }
@@ -50,7 +50,7 @@ fn add_corner<L: Ledger>(
     steps: &mut Steps<L>,
 )
     requires lanes { AreLanes (lane_count tables.now) (2 ^ 62 + 2 ^ 48) acc.old }
-    requires corner { IsCornerWithin 1050000 corner }
+    requires corner { IsCornerInRange 1050000 corner }
     requires at { IsPixWithin 1050000 at }
     ensures rises { RisesBy (corner_change tables.now corner at.x at.y) 0 acc.old acc.new }
     ensures small { (lane : ℕ) → lane < lane_count tables.now → unsigned_abs (corner_change tables.now corner at.x at.y lane) ≤ 2 ^ 28 }

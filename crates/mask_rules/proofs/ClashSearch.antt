@@ -13,7 +13,7 @@ use Rattle.opc_base.specs.Plane.{rect_cover}
 use Rattle.mask_rules.specs.declared.clash.Clash.{Clash}
 use Rattle.mask_rules.specs.declared.clash.Clash.TheVariants.{Meet, Narrow, Touch}
 use Rattle.mask_rules.specs.declared.stretch.Stretch.{Stretch}
-use Rattle.mask_rules.specs.Clashes.{IsClash, clash_pixel, is_meeting, is_narrow, is_touching, around, pair_pixel, ClashesOf}
+use Rattle.mask_rules.specs.Clashes.{IsClash, clash_pixel, is_meeting, is_narrow, is_touching, clash_area, pair_pixel, ClashesOf}
 use Rattle.mask_rules.specs.First.{IsUpTo, ReachesUpTo, IsFirst}
 use Rattle.mask_rules.specs.Stretches.{Spans, pixel_at, rect_at, stretch_at}
 use Rattle.mask_rules.proofs.Changed.{stretch_within}
@@ -45,9 +45,9 @@ reach Meet = pos 0
 reach (Narrow covered least) = least
 reach Touch = pos 0
 
--- each of two stretches that clash is in the rectangle around the other
+-- each of two stretches that clash is in the rectangle clash_area the other
 clash_near : (far : ℤ) (clash : Clash) (v : Bool) (p q : Stretch) (pixel : Pix) → IsClash clash → reach clash ≤ℤ far → clash_pixel clash v p q ≡ Some pixel
-    → StandsIn (around far v p) v q × StandsIn (around far v q) v p
+    → StandsIn (clash_area far v p) v q × StandsIn (clash_area far v q) v p
 clash_near far Meet v p q pixel limits enough e =
     let m = meeting_of_test p q (some_of (is_meeting p q) _ _ e).0 in
     let t = int_max p.low q.low in
@@ -124,7 +124,7 @@ contained_below fs reach r numbers k near at = subst (λ m. m < length fs) at.2 
 
 pub first_clash_is : (fs : List Fragment) (line : ℕ → ℤ) (most far : ℤ) (clash : Clash) (v : Bool) (c : ℕ) (numbers : List ℕ)
     → IsFragmentList fs → pos 0 ≤ℤ most → KeepNear fs line most → IsClash clash → reach clash ≤ℤ far
-    → IsAllNear fs most (around far v (stretch_at fs line v c)) numbers
+    → IsAllNear fs most (clash_area far v (stretch_at fs line v c)) numbers
     → IsFirst (ClashesOf fs line clash v c) (first_from (λ k. pair_pixel clash v (stretch_at fs line v c) (stretch_at fs line v k)) None numbers)
 first_clash_is fs line most far clash v c numbers fragments least keep limits enough near =
     IsFirst-cover (λ p. (k : ℕ) × Contains numbers k × (pair_pixel clash v mine (stretch_at fs line v k) ≡ Some p)) _ _
@@ -148,7 +148,7 @@ first_clash_is fs line most far clash v c numbers fragments least keep limits en
         IsFirst-earlier _ _ (clash_pixel clash v mine (stretch_at fs line v k)) (clash_pixel clash v (stretch_at fs line v k) mine)
         (IsFirst-one (clash_pixel clash v mine (stretch_at fs line v k))) (IsFirst-one (clash_pixel clash v (stretch_at fs line v k) mine))
 
-    in_list : (k : ℕ) → k < length fs → StandsIn (around far v mine) v (stretch_at fs line v k) → Contains numbers k
+    in_list : (k : ℕ) → k < length fs → StandsIn (clash_area far v mine) v (stretch_at fs line v k) → Contains numbers k
     in_list k below stands =
         near.complete k _ _ below stands.2 (stretch_within fs line most v k stands.0 fragments least keep below stands.1)
 

@@ -11,7 +11,7 @@ use Rattle.mask_rules.specs.declared.clash.Clash.{Clash}
 use Rattle.mask_rules.specs.declared.clash.Clash.TheVariants.{Meet, Narrow, Touch}
 use Rattle.mask_rules.specs.declared.first.Found.{Found}
 use Rattle.mask_rules.specs.declared.stretch.Stretch.{Stretch}
-use Rattle.mask_rules.specs.Clashes.{IsClash, ClashesOf, around, clash_pixel, is_meeting, is_narrow, is_touching, pair_pixel}
+use Rattle.mask_rules.specs.Clashes.{IsClash, ClashesOf, clash_area, clash_pixel, is_meeting, is_narrow, is_touching, pair_pixel}
 use Rattle.mask_rules.specs.First.{IsFirst, earlier}
 use Rattle.mask_rules.specs.Found.{IsFound, earlier_each, none_found, pair_found}
 use Rattle.mask_rules.specs.Limits.{IsRules}
@@ -66,7 +66,7 @@ none_clash rules fs line v c limits empty = record {
 
 pub found_is : (rules : MaskRules) (fs : List Fragment) (line : ℕ → ℤ) (most far : ℤ) (v : Bool) (c : ℕ) (numbers : List ℕ)
     → IsRules rules → rules.width ≤ℤ far → rules.space ≤ℤ far
-    → IsFragmentList fs → pos 0 ≤ℤ most → KeepNear fs line most → IsAllNear fs most (around far v (stretch_at fs line v c)) numbers
+    → IsFragmentList fs → pos 0 ≤ℤ most → KeepNear fs line most → IsAllNear fs most (clash_area far v (stretch_at fs line v c)) numbers
     → IsFound rules (λ clash. ClashesOf fs line clash v c)
     (each_from (λ k. pair_found rules v (stretch_at fs line v c) (stretch_at fs line v k)) none_found numbers)
 found_is rules fs line most far v c numbers limits width space fragments least keep near = record {

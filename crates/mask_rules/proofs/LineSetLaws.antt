@@ -12,9 +12,10 @@ use Rattle.opc_base.specs.Runs.{IsRun}
 use Rattle.opc_base.specs.Sums.{sum_each}
 use Rattle.rect_union.specs.CornerSets.{AreCornersOfSet, IsCornerWithin, corner_set, rect_sign}
 use Rattle.rect_union.specs.Outlines.{rect_count}
+use Rattle.rect_union.specs.Strips.{IsInLimit}
 use Rattle.rect_union.proofs.RectCornerLaws.{count_is_cover}
 use Rattle.rect_union.proofs.SumLaws.{sum_each-same}
-use Rattle.rect_union.proofs.WithinLaws.{IsInLimit, rects_within}
+use Rattle.rect_union.proofs.WithinLaws.{rects_within}
 use Rattle.mask_rules.specs.LineSets.{LiesInShortLine, across, field, field_rect, field_sign, line_set, sign_of, turned, turned_rect}
 use Rattle.mask_rules.specs.ShortLines.{LiesInside}
 

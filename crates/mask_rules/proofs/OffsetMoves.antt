@@ -14,7 +14,7 @@ use Rattle.outline_model.proofs.Walk.{stands}
 use Rattle.mask_rules.specs.declared.clash.Clash.TheVariants.{Meet}
 use Rattle.mask_rules.specs.Clashes.{ClashesNow}
 use Rattle.mask_rules.specs.First.{IsFirst, earlier}
-use Rattle.mask_rules.specs.Limits.{IsRectWithin}
+use Rattle.mask_rules.specs.Limits.{IsMaskRect}
 use Rattle.mask_rules.specs.Spots.{lowest}
 use Rattle.mask_rules.specs.Sweeps.{IsBeside, MiscountAt}
 use Rattle.mask_rules.proofs.CrossingLemmas.{crossing_first, beside_of, swept_some}
@@ -52,7 +52,7 @@ outward_is fs offsets i from to inside =
     ∙ ap (λ l. is_outward (side_of fs i) l ((fragment_at fs i).edge +ℤ outward (side_of fs i) to)) (sym (line_at_moved fs offsets i from inside))
     ∙ ap (is_outward (side_of fs i) (lines fs (set offsets i from) i)) (sym (line_at_moved fs offsets i to inside))
 
-pub rect_within : (side : Side) (a b low high : ℤ) → IsWithin 1048128 a → IsWithin 1048128 b → IsWithin 1048128 low → IsRectWithin (rect_between side a b low high)
+pub rect_within : (side : Side) (a b low high : ℤ) → IsWithin 1048128 a → IsWithin 1048128 b → IsWithin 1048128 low → IsMaskRect (rect_between side a b low high)
 rect_within Left a b low high a_in b_in low_in = let p = a_in.0 in let q = a_in.1 in let r = b_in.0 in let s = b_in.1 in record { x0 = (omega (arith, ints, clamps), omega (arith, ints, clamps)); y0 = low_in }
 rect_within Right a b low high a_in b_in low_in = let p = a_in.0 in let q = a_in.1 in let r = b_in.0 in let s = b_in.1 in record { x0 = (omega (arith, ints, clamps), omega (arith, ints, clamps)); y0 = low_in }
 rect_within Down a b low high a_in b_in low_in = let p = a_in.0 in let q = a_in.1 in let r = b_in.0 in let s = b_in.1 in record { x0 = low_in; y0 = (omega (arith, ints, clamps), omega (arith, ints, clamps)) }

@@ -7,13 +7,13 @@ use Rattle.outline_model.specs.Ranges.{IsWithin}
 use Rattle.outline_model.specs.Outline.{Point, IsOutline, fragment_at, side_of, is_rising, end_at, start_join, start_place, finish_join, finish_place, joined, finish, own_piece, jog}
 use Rattle.outline_model.proofs.Walk.{placed, stands, start_is, finish_is, jog_at_corner}
 use Rattle.outline_model.proofs.Crossings.{cut_jog_is}
-use Rattle.mask_rules.specs.Stretches.{walked, piece_of, stretch_of, stretch_at}
+use Rattle.mask_rules.specs.Stretches.{walked, directed_piece, stretch_of, stretch_at}
 
-pub piece_of-own : (v : Bool) (fs : List Fragment) (line : ℕ → ℤ) (k : ℕ) → stands fs k ≡ v → piece_of v fs line k ≡ own_piece fs line k
+pub piece_of-own : (v : Bool) (fs : List Fragment) (line : ℕ → ℤ) (k : ℕ) → stands fs k ≡ v → directed_piece v fs line k ≡ own_piece fs line k
 piece_of-own true fs line k e = ap (λ (t : Bool). if t then own_piece fs line k else jog fs line k) e
 piece_of-own false fs line k e = ap (λ (t : Bool). if t then jog fs line k else own_piece fs line k) e
 
-pub piece_of-jog : (v : Bool) (fs : List Fragment) (line : ℕ → ℤ) (k : ℕ) → stands fs k ≡ not v → piece_of v fs line k ≡ jog fs line k
+pub piece_of-jog : (v : Bool) (fs : List Fragment) (line : ℕ → ℤ) (k : ℕ) → stands fs k ≡ not v → directed_piece v fs line k ≡ jog fs line k
 piece_of-jog true fs line k e = ap (λ (t : Bool). if t then own_piece fs line k else jog fs line k) e
 piece_of-jog false fs line k e = ap (λ (t : Bool). if t then jog fs line k else own_piece fs line k) e
 

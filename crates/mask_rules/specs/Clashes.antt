@@ -50,8 +50,8 @@ abbrev pub clash_pixel : Clash → Bool → Stretch → Stretch → Option Pix
 clash_pixel clash v p q = if clash_test clash v p q then Some (clash_place clash v p q) else None
 
 -- a rectangle that has the places beside a stretch at which others that are at most `reach` apart can clash with it
-abbrev pub around : ℤ → Bool → Stretch → Rect
-around reach v s = rect_at v (s.at -ℤ reach) (s.at +ℤ reach +ℤ pos 1) (s.low -ℤ pos 1) (s.high +ℤ pos 1)
+abbrev pub clash_area : ℤ → Bool → Stretch → Rect
+clash_area reach v s = rect_at v (s.at -ℤ reach) (s.at +ℤ reach +ℤ pos 1) (s.low -ℤ pos 1) (s.high +ℤ pos 1)
 
 -- the first pixel of the clashes of two stretches, whichever comes first
 abbrev pub pair_pixel : Clash → Bool → Stretch → Stretch → Option Pix

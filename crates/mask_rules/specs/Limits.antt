@@ -10,7 +10,7 @@ pub record IsStretchWithin (s : Stretch) : Type 0 where
   pub low : IsWithin 1048128 s.low
   pub high : IsWithin 1048128 s.high
 
-pub record IsRectWithin (r : Rect) : Type 0 where
+pub record IsMaskRect (r : Rect) : Type 0 where
   pub x0 : IsWithin 1048128 r.x0
   pub y0 : IsWithin 1048128 r.y0
 

@@ -12,9 +12,9 @@ use Rattle.mask_rules.specs.declared.stretch.Stretch.{Stretch}
 abbrev pub walked : Bool → ℤ → ℤ → ℤ → Stretch
 walked vertical at from to = record { at = at; low = int_min from to; high = int_max from to; opens = if vertical then int_lt to from else int_lt from to }
 
-abbrev pub piece_of : Bool → List Fragment → (ℕ → ℤ) → ℕ → Piece
-piece_of true fs line k = vertical_piece fs line k
-piece_of false fs line k = horizontal_piece fs line k
+abbrev pub directed_piece : Bool → List Fragment → (ℕ → ℤ) → ℕ → Piece
+directed_piece true fs line k = vertical_piece fs line k
+directed_piece false fs line k = horizontal_piece fs line k
 
 abbrev pub stretch_of : Bool → Piece → Stretch
 stretch_of true p = walked true p.from.x p.from.y p.to.y
@@ -22,7 +22,7 @@ stretch_of false p = walked false p.from.y p.from.x p.to.x
 
 -- what a fragment gives to the outline in one direction
 unfoldable pub stretch_at : List Fragment → (ℕ → ℤ) → Bool → ℕ → Stretch
-stretch_at fs line v k = stretch_of v (piece_of v fs line k)
+stretch_at fs line v k = stretch_of v (directed_piece v fs line k)
 
 -- the stretch is beside t
 abbrev pub Spans : Stretch → ℤ → Type 0

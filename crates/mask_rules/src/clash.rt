@@ -2,7 +2,7 @@
 
 ghost use Rattle.std.specs.Prelude.{◌≡◌};
 ghost use Rattle.outline_model.specs.Ranges.{IsWithin};
-ghost use Rattle.mask_rules.specs.Clashes.{IsClash, around, clash_pixel, clash_place, clash_test, is_meeting, is_narrow, is_touching, of_colour, overlap};
+ghost use Rattle.mask_rules.specs.Clashes.{IsClash, clash_area, clash_pixel, clash_place, clash_test, is_meeting, is_narrow, is_touching, of_colour, overlap};
 ghost use Rattle.mask_rules.specs.Limits.{IsStretchWithin};
 
 use crate::stretch::{Stretch, pixel_at, rect_at};
@@ -110,10 +110,10 @@ impl Clash {
 }
 
 /// A rectangle that has the places beside a stretch at which others that are at most `reach` apart can clash with it.
-pub fn around(reach: i32, vertical: bool, stretch: Stretch) -> Rect
+pub fn clash_area(reach: i32, vertical: bool, stretch: Stretch) -> Rect
     requires reach { IsWithin 1024 reach }
     requires stretch { IsStretchWithin stretch }
-    ensures { result ≡ around reach vertical stretch }
+    ensures { result ≡ clash_area reach vertical stretch }
 {
     let first = stretch.at - reach;
     let past = stretch.at + reach + 1;

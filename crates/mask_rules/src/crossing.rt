@@ -12,7 +12,7 @@ ghost use Rattle.outline_model.specs.Rules.{CrossesAt, NoneCrosses};
 ghost use Rattle.mask_rules.specs.declared.clash.Clash.TheVariants.{Meet};
 ghost use Rattle.mask_rules.specs.Clashes.{ClashesNow};
 ghost use Rattle.mask_rules.specs.First.{IsFirst};
-ghost use Rattle.mask_rules.specs.Limits.{IsRectWithin};
+ghost use Rattle.mask_rules.specs.Limits.{IsMaskRect};
 ghost use Rattle.mask_rules.specs.Placements.{IsNearOffset, IsPlacement, line_of, line_to};
 ghost use Rattle.mask_rules.specs.Spots.{lowest};
 ghost use Rattle.mask_rules.specs.Sweeps.{IsBeside, MiscountAt, corner_of};
@@ -44,7 +44,7 @@ fn first_miscount(present: &Placement, near: &Near, rect: &Rect, outward: bool) 
     requires near { near.now ≡ present.now.fragments.now }
     requires list { IsFragmentList present.now.fragments.now }
     requires crosses { NoneCrosses present.now.fragments.now (line_of present.now) }
-    requires within { IsRectWithin rect.now }
+    requires within { IsMaskRect rect.now }
     requires wide { rect.now.x0 <ℤ rect.now.x1 }
     requires high { rect.now.y0 <ℤ rect.now.y1 }
     requires beside { IsBeside (mask present.now.fragments.now (line_of present.now)) (is_vertical (side_of present.now.fragments.now present.now.moved))
@@ -94,7 +94,7 @@ fn swept(present: &Placement, to: i32) -> Rect
     requires placement { IsPlacement present.now }
     requires to { IsWithin 1048128 to }
     ensures swept { result ≡ swept present.now.fragments.now (line_of present.now) present.now.moved to }
-    ensures within { IsRectWithin result }
+    ensures within { IsMaskRect result }
     ensures list { IsFragmentList present.now.fragments.now }
 {
     let from = line(present, present.moved);

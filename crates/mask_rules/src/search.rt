@@ -7,7 +7,7 @@ ghost use Rattle.mask_rules.specs.Limits.{IsRules, IsStretchWithin};
 ghost use Rattle.mask_rules.specs.Placements.{IsPlacement, line_of};
 ghost use Rattle.mask_rules.specs.Stretches.{stretch_at};
 
-use crate::clash::{Clash, around};
+use crate::clash::{Clash, clash_area};
 use crate::first::{Found, earlier, earlier_each, none_found};
 use crate::placement::{Placement, stretch};
 use crate::stretch::Stretch;
@@ -81,7 +81,7 @@ fn found_of(outline: &Placement, near: &Near, rules: &MaskRules, vertical: bool,
     }
     let mut first = none_found();
     let reach = rules.width.max(rules.space);
-    for k in near.meets_within(&around(reach, vertical, mine), outline.reach) {
+    for k in near.meets_within(&clash_area(reach, vertical, mine), outline.reach) {
         let found = pair_found(outline, rules, vertical, mine, k);
         first = earlier_each(first, found);
     }

@@ -42,6 +42,10 @@ fn first_in_lines(
     requires within { All (IsRectWithin 1048576) rects.now }
     ensures first { IfOk result (IsFirst (LiesInShortLine turn out (cover rects.now) least)) }
 {
+    if !turn && !out {
+        let own = first_inside(rects, least, false, false);
+        return Ok(own);
+    }
     let region = line_rects(alloc, rects, turn, out)?;
     let place = first_inside(region.rects(), least, turn, out);
     Ok(place)

@@ -2,7 +2,7 @@
 
 ghost use Rattle.std.specs.Prelude.{◌≡◌, ◌<◌, ◌<ℤ◌, true, false, if◌then◌else◌, length, not};
 ghost use Rattle.outline_model.specs.Limits.{IsFragmentList};
-ghost use Rattle.mask_rules.specs.Limits.{IsRectWithin};
+ghost use Rattle.mask_rules.specs.Limits.{IsMaskRect};
 ghost use Rattle.mask_rules.specs.Placements.{IsPlacement, line_of};
 ghost use Rattle.mask_rules.specs.Spots.{AreFirstSpots, is_ahead, is_inside, lowest, spot_pixel};
 ghost use Rattle.mask_rules.specs.Stretches.{stretch_at};
@@ -57,7 +57,7 @@ fn choose(vertical: bool, upright: Stretch, level: Stretch) -> Stretch
 /// The first pixels of the rectangle after fragment `k`'s stretches.
 fn spots_of(outline: &Placement, vertical: bool, rect: &Rect, opens: bool, k: u32) -> FirstSpots
     requires placement { IsPlacement outline.now }
-    requires within { IsRectWithin rect.now }
+    requires within { IsMaskRect rect.now }
     requires k { k < length outline.now.fragments.now }
     ensures across { result.across ≡ spot_pixel true rect.now opens (stretch_at outline.now.fragments.now (line_of outline.now) true k) }
     ensures along { result.along ≡ spot_pixel false (lowest false rect.now) opens (stretch_at outline.now.fragments.now (line_of outline.now) false k) }
@@ -92,7 +92,7 @@ pub fn first_spots(
     requires placement { IsPlacement outline.now }
     requires near { near.now ≡ outline.now.fragments.now }
     requires list { IsFragmentList outline.now.fragments.now }
-    requires within { IsRectWithin rect.now }
+    requires within { IsMaskRect rect.now }
     requires wide { rect.now.x0 <ℤ rect.now.x1 }
     requires high { rect.now.y0 <ℤ rect.now.y1 }
     ensures { AreFirstSpots outline.now.fragments.now (line_of outline.now) vertical rect.now opens result }
@@ -129,7 +129,7 @@ pub fn is_ahead(first: Option<Pix>, other: Option<Pix>) -> bool
 
 /// The pixels of lowest place along, as a band.
 pub fn lowest(vertical: bool, rect: &Rect) -> Rect
-    requires { IsRectWithin rect.now }
+    requires { IsMaskRect rect.now }
     ensures { result ≡ lowest vertical rect.now }
 {
     if vertical {

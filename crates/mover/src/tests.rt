@@ -26,8 +26,8 @@ fn wishes_are_the_nearest_whole_moves_in_range(rt: HostRuntime) {
         (64, -8, 0),
     ];
     for (error, offset, delta) in rows {
-        if error >= -256 && error <= 256 && offset >= -8 && offset <= 16 {
-            assert_eq!(rt; wish(error, offset, &RULES), delta, "at {error}");
-        }
+        assert!(rt; error >= -256 && error <= 256, "{error}");
+        assert!(rt; offset >= -8 && offset <= 16, "{offset}");
+        assert_eq!(rt; wish(error, offset, &RULES), delta, "at {error}");
     }
 }

@@ -26,7 +26,7 @@ false_unless : (b : Bool) → (b ≡ true → ⊥) → b ≡ false
 false_unless true never = absurd (never refl)
 false_unless false never = refl
 
-true_false : true ≡ false → ⊥
+pub true_false : true ≡ false → ⊥
 true_false same = cc
 
 default_at : (rects : List Rect) (k : ℕ) (d e : Rect) → k < length rects → get_or rects k d ≡ get_or rects k e
@@ -74,7 +74,7 @@ row_of rects k d y canonical at low high = record {
 }
 
 -- two maximal runs that share a number are one
-same_run : (f : ℤ → Bool) (a b c d : ℤ) → IsRun f a b → IsRun f c d → c ≤ℤ a → a <ℤ d → (c ≡ a) × (d ≡ b)
+pub same_run : (f : ℤ → Bool) (a b c d : ℤ) → IsRun f a b → IsRun f c d → c ≤ℤ a → a <ℤ d → (c ≡ a) × (d ≡ b)
 same_run f a b c d first second from to =
     let starts : c ≡ a = by_lt_z c a
     (λ less. absurd (let on : f (a -ℤ pos 1) ≡ true = second.all (a -ℤ pos 1) (omega (arith, ints)) (omega (arith, ints)) in

@@ -16,7 +16,7 @@ use Rattle.opc_base.specs.declared.plane.Corner.{Corner}
 use Rattle.opc_base.proofs.SumLaws.{mul-add, sum_window-add, sum_window-same, sum_window-scale, sum_range-bound}
 use Rattle.opc_base.proofs.ClampLaws.{block-bound}
 use Rattle.opc_base.proofs.CornerLaws.{seen_sum-corners}
-use Rattle.opc_base.proofs.OpticsLaws.{AreSmall, entry_of_kernel-within, product-one, product-within, product_within, reach_within}
+use Rattle.opc_base.proofs.OpticsLaws.{IsProductWithin, entry_of_kernel-within, product-one, product-within, product_within, reach_within}
 
 -- ---- products with a difference
 pub mul-sub : (a b c : ℤ) → a *ℤ (b -ℤ c) ≡ a *ℤ b -ℤ a *ℤ c
@@ -140,7 +140,7 @@ entry_of_lane-within set most lane u v all = of_read (slice_get set.kernels (lan
     of_read None each = (omega arith, omega arith)
     of_read (Some kernel) each = each kernel refl
 
-product_of_lane-within : (lane : ℕ) (a b : Entry) (n : ℕ) → AreSmall n a b → unsigned_abs (product_of_lane lane a b) ≤ n
+product_of_lane-within : (lane : ℕ) (a b : Entry) (n : ℕ) → IsProductWithin n a b → unsigned_abs (product_of_lane lane a b) ≤ n
 product_of_lane-within lane a b n small = either (nat_eq (lane % 2) 0) (product_re a b) (product_im a b) small.0 small.1
   where
     either : (b : Bool) (x y : ℤ) → unsigned_abs x ≤ n → unsigned_abs y ≤ n → unsigned_abs (if b then x else y) ≤ n
@@ -155,8 +155,8 @@ passed-within set lane pixels px py u v bounds =
     (of_read (slice_get set.kernels (lane / 2)) (λ kernel is. product_within set kernel pixels u v px py bounds
     (lane / 2, slice_get_within set.kernels (lane / 2) kernel is, get_or_from_slice_get set.kernels (lane / 2) kernel kernel is)))
   where
-    of_read : (o : Option Kernel) → ((kernel : Kernel) → o ≡ Some kernel → AreSmall 2048 (entry_at set.reach kernel.entries u v) (passes set pixels px py)) →
-        AreSmall 2048 (entry_at set.reach (entries_or_none o) u v) (passes set pixels px py)
+    of_read : (o : Option Kernel) → ((kernel : Kernel) → o ≡ Some kernel → IsProductWithin 2048 (entry_at set.reach kernel.entries u v) (passes set pixels px py)) →
+        IsProductWithin 2048 (entry_at set.reach (entries_or_none o) u v) (passes set pixels px py)
     of_read None each = (omega (arith, ints), omega (arith, ints))
     of_read (Some kernel) each = each kernel refl
 

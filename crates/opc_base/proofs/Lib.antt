@@ -9,3 +9,5 @@ pub mod ChangeLaws
 pub mod CornerLaws
 pub mod LaneLaws
 pub mod ProductLaws
+pub mod ListsInOrder
+pub mod CanonicalConverse

@@ -27,15 +27,15 @@ passes-within set pixels x y most covered uncovered = either (pixels x y) set.co
     either b s t small_s small_t = grind arith
 
 -- both parts of the product of an entry and a transmission are at most this far from 0
-abbrev pub AreSmall : ℕ → Entry → Entry → Type 0
-AreSmall most k t = (unsigned_abs (product_re k t) ≤ most) × (unsigned_abs (product_im k t) ≤ most)
+abbrev pub IsProductWithin : ℕ → Entry → Entry → Type 0
+IsProductWithin most k t = (unsigned_abs (product_re k t) ≤ most) × (unsigned_abs (product_im k t) ≤ most)
 
 -- ---- products of an entry and a transmission
 product-small : (a b : ℤ) (m n : ℕ) → unsigned_abs a ≤ m → unsigned_abs b ≤ n → unsigned_abs (a *ℤ b) ≤ m * n
 product-small a b m n small_a small_b = rw (unsigned_abs-mul a b) (mul-le-mul small_a small_b)
 
 -- both parts of a product are small
-pub product-within : (k t : Entry) (m n : ℕ) → IsEntryWithin m k → IsEntryWithin n t → AreSmall (2 * (m * n)) k t
+pub product-within : (k t : Entry) (m n : ℕ) → IsEntryWithin m k → IsEntryWithin n t → IsProductWithin (2 * (m * n)) k t
 product-within k t m n small_k small_t = (
   difference (k.re *ℤ t.re) (k.im *ℤ t.im) (product-small k.re t.re m n small_k.0 small_t.0) (product-small k.im t.im m n small_k.1 small_t.1),
   sum (k.re *ℤ t.im) (k.im *ℤ t.re) (product-small k.re t.im m n small_k.0 small_t.1) (product-small k.im t.re m n small_k.1 small_t.0),
@@ -48,10 +48,10 @@ product-within k t m n small_k small_t = (
     sum a b small_a small_b = omega (arith, ints)
 
 -- a product with one or with nothing is as small as the entry
-pub product-one : (k t : Entry) → IsEntryWithin 2048 k → t ≡ record { re = pos 1; im = pos 0 } → AreSmall 2048 k t
+pub product-one : (k t : Entry) → IsEntryWithin 2048 k → t ≡ record { re = pos 1; im = pos 0 } → IsProductWithin 2048 k t
 product-one k t small is = rw is (omega (arith, ints, small.0, small.1), omega (arith, ints, small.0, small.1))
 
-pub product-nothing : (k t : Entry) → t ≡ nothing → AreSmall 2048 k t
+pub product-nothing : (k t : Entry) → t ≡ nothing → IsProductWithin 2048 k t
 product-nothing k t is = rw is (omega (arith, ints), omega (arith, ints))
 
 -- ---- kernel sets that keep the bounds of a kernel file
@@ -77,20 +77,20 @@ rows_within set kernel bounds among =
 
 -- what a place of the kernel gives is at most 2048 from 0
 pub product_within : (set : KernelSet) (kernel : Kernel) (pixels : PixelSet) (u v x y : ℤ) → KeepsBounds set → Contains set.kernels kernel →
-    AreSmall 2048 (entry_at set.reach kernel.entries u v) (passes set pixels x y)
+    IsProductWithin 2048 (entry_at set.reach kernel.entries u v) (passes set pixels x y)
 product_within set kernel pixels u v x y bounds among = ⊎_elim one two bounds
   where
-    one : KeepsOneTransmission set → AreSmall 2048 (entry_at set.reach kernel.entries u v) (passes set pixels x y)
+    one : KeepsOneTransmission set → IsProductWithin 2048 (entry_at set.reach kernel.entries u v) (passes set pixels x y)
     one keeps = either (pixels x y) set.covered set.uncovered
         (product-one (entry_at set.reach kernel.entries u v) set.covered (entry_at-within set.reach kernel.entries 2048 u v (kernel_within set 2048 kernel keeps.kernels among).entries_within) keeps.covered)
         (product-nothing (entry_at set.reach kernel.entries u v) set.uncovered keeps.uncovered)
       where
-        either : (b : Bool) (s t : Entry) → AreSmall 2048 (entry_at set.reach kernel.entries u v) s → AreSmall 2048 (entry_at set.reach kernel.entries u v) t →
-            AreSmall 2048 (entry_at set.reach kernel.entries u v) (if b then s else t)
+        either : (b : Bool) (s t : Entry) → IsProductWithin 2048 (entry_at set.reach kernel.entries u v) s → IsProductWithin 2048 (entry_at set.reach kernel.entries u v) t →
+            IsProductWithin 2048 (entry_at set.reach kernel.entries u v) (if b then s else t)
         either true s t small_s small_t = small_s
         either false s t small_s small_t = small_t
 
-    two : KeepsTwoTransmissions set → AreSmall 2048 (entry_at set.reach kernel.entries u v) (passes set pixels x y)
+    two : KeepsTwoTransmissions set → IsProductWithin 2048 (entry_at set.reach kernel.entries u v) (passes set pixels x y)
     two keeps = product-within (entry_at set.reach kernel.entries u v) (passes set pixels x y) 128 8
         (entry_at-within set.reach kernel.entries 128 u v (kernel_within set 128 kernel keeps.kernels among).entries_within)
         (passes-within set pixels x y 8 keeps.covered keeps.uncovered)

@@ -41,4 +41,15 @@ impl Bytes {
         self.bytes.extend_from_slice(more)?;
         Ok(())
     }
+
+    /// Appends these bytes and then those, for which it takes memory once. After `NoMemory` the value is as it was.
+    pub fn append_both(&mut self, first: &[u8], second: &[u8]) -> Result<(), NoMemory>
+        ensures appended { OnOk result (self.new ≡ self.old ++ (first.now ++ second.now)) }
+        ensures unchanged { OnErr result (self.new ≡ self.old) }
+    {
+        self.bytes.reserve(first.len() + second.len())?;
+        self.bytes.extend_from_slice(first)?;
+        self.bytes.extend_from_slice(second)?;
+        Ok(())
+    }
 }

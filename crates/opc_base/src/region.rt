@@ -1,7 +1,7 @@
 //! Sets of pixels by their canonical rectangles.
 ghost use Rattle.std.specs.Prelude.{◌≡◌, List};
 ghost use Rattle.opc_base.specs.declared.plane.Rect.{Rect};
-ghost use Rattle.opc_base.specs.Plane.{cover};
+ghost use Rattle.opc_base.specs.Plane.{PixelSet, cover};
 ghost use Rattle.opc_base.specs.Canonical.{AreCanonical, IsCanonical};
 
 use crate::{Pix, Rect};
@@ -27,10 +27,11 @@ impl Model for Region {
 }
 
 impl Region {
-    /// The region with these rectangles.
+    /// The region with these rectangles. No more is asked of them than that they are the canonical list of some set.
     pub fn from_rects(rects: Vec<Rect>) -> Self
         requires canonical { AreCanonical rects.items }
         ensures list { result ≡ rects.items }
+        ensures any_set { (inside : PixelSet) (others : List Rect) → IsCanonical inside others → AreCanonical others }
     {
         Region { rects }
     }

@@ -1,5 +1,5 @@
 -- Numbers that are stored, by place, sample and lane.
-use Rattle.std.proofs.Common.{◌≡◌, ℕ, zero, suc, ◌+◌, ◌-◌, ◌*◌, ◌/◌, ◌%◌, ◌^◌, ◌<◌, ◌≤◌, ℤ, pos, ◌+ℤ◌, ◌-ℤ◌, ◌*ℤ◌, unsigned_abs, to_z, of_z, w32, false, List, ◌++◌, Some, slice_get, slice_index, length, get_or, take, drop, refl, sym, ap, ◌∙◌, subst, zero-add, arith, ⊎_elim}
+use Rattle.std.proofs.Common.{◌≡◌, ℕ, zero, suc, ◌+◌, ◌-◌, ◌*◌, ◌/◌, ◌%◌, ◌^◌, ◌<◌, ◌≤◌, ℤ, pos, ◌+ℤ◌, ◌-ℤ◌, ◌*ℤ◌, ◌≤ℤ◌, unsigned_abs, to_z, of_z, w32, false, List, [], ◌∷◌, ◌++◌, Some, slice_get, slice_index, length, get_or, take, drop, refl, sym, ap, ◌∙◌, subst, zero-add, arith, ⊎_elim}
 use Rattle.std.proofs.lemmas.Bool.{cases_lt}
 use Rattle.std.proofs.lemmas.Int.{ints}
 use Rattle.std.proofs.lemmas.Nat.{div-add-mod', div-mul-add, mod-mul-add, mod_below, div_below, mul-le}
@@ -14,8 +14,8 @@ use Rattle.opc_base.specs.Sums.{sum_each}
 use Rattle.opc_base.specs.declared.kernels.KernelSet.{KernelSet}
 use Rattle.opc_base.specs.declared.moves.Swept.{Swept}
 use Rattle.opc_base.specs.declared.plane.Pix.{Pix}
-use Rattle.opc_base.proofs.ChangeLaws.{CanRise-back, CanRise-front}
-use Rattle.opc_base.proofs.SumLaws.{sum_each-same}
+use Rattle.opc_base.proofs.ChangeLaws.{CanRise-back, CanRise-front, RisesBy-none, RisesBy-same}
+use Rattle.opc_base.proofs.SumLaws.{sum_each-same, sum_each_start}
 use Rattle.lane_intensity.specs.Differences.{AreLanes}
 use Rattle.outline_model.specs.Outline.{fragment_at, site_of}
 use Rattle.tiles.specs.Meets.{AddsNothing, meet_tile}
@@ -319,3 +319,28 @@ no_places tiling q i none is =
     let ends = first_of-end tiling in
     let start : first_of tiling 0 ≡ 0 = omega arith in
     omega (arith, slice_get_within (by_place tiling) q i is, ends, subst (λ n. first_of tiling n ≡ 0) (sym none) start)
+
+-- the samples to a side, counted as a natural number
+-- the halo, where the samples are counted as a natural number
+pub halo_is : (halo samples : ℤ) (reach : ℕ) → pos 1 ≤ℤ samples → halo ≡ pos reach +ℤ samples → halo ≡ pos (reach + unsigned_abs samples)
+halo_is halo samples reach some is = omega (arith, ints, is)
+
+pub some_samples : (samples : ℤ) → pos 1 ≤ℤ samples → 1 ≤ unsigned_abs samples
+some_samples samples some = omega (arith, ints)
+
+pub few_samples : (samples : ℤ) → pos 1 ≤ℤ samples → samples ≤ℤ pos 16 → unsigned_abs samples ≤ 16
+few_samples samples some few = omega (arith, ints)
+
+-- ---- one rectangle
+-- all numbers are small where a list of rectangles can be added
+pub all_small : (s : Setting) (list : List Swept) (sums : List ℤ) → CanTake s list 0 sums → AreLanes (length sums) (2 ^ 62) sums
+all_small s list sums can = small_after s list 0 0 sums sums can (omega arith) (RisesBy-none _ 0 sums (λ n. sym (sum_each_start _)))
+
+-- a list of one adds what that one does
+pub adds_one : (s : Setting) (one : Swept) (old new : List ℤ) → KeepsBounds s.set → length old ≡ stride_of s * length (by_place s.tiling) →
+    RisesBy (change_at s one) 0 old new → AddsAll s (one ∷ []) old new
+unfolding sum_each
+adds_one s one old new bounds size rises = adds_all s (one ∷ []) old new bounds size (RisesBy-same _ _ 0 old new (λ i below. sym (alone (λ each. change_at s each (0 + i)))) rises)
+  where
+    alone : (f : Swept → ℤ) → sum_each f (one ∷ []) ≡ f one
+    alone f = omega (arith, ints)

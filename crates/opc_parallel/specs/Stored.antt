@@ -1,5 +1,5 @@
 -- What is stored for the samples of fragments, and what swept rectangles add to it.
-use Rattle.std.specs.Prelude.{◌≡◌, ℕ, ◌+◌, ◌*◌, ◌/◌, ◌%◌, ◌^◌, ◌<◌, ◌≤◌, ℤ, pos, ◌+ℤ◌, ◌-ℤ◌, unsigned_abs, List, Some, length, take, slice_get, slice_index, slice_index_or}
+use Rattle.std.specs.Prelude.{◌≡◌, ℕ, ◌+◌, ◌*◌, ◌/◌, ◌%◌, ◌^◌, ◌<◌, ◌≤◌, ℤ, pos, ◌+ℤ◌, ◌-ℤ◌, unsigned_abs, List, Some, length, take, slice_get, slice_index, slice_index_or, sum_by}
 use Rattle.opc_base.specs.Changes.{CanRise}
 use Rattle.opc_base.specs.Lanes.{lane_count, rect_change}
 use Rattle.opc_base.specs.Sums.{sum_each}
@@ -8,7 +8,7 @@ use Rattle.opc_base.specs.declared.moves.Swept.{Swept}
 use Rattle.opc_base.specs.declared.plane.Pix.{Pix}
 use Rattle.outline_model.specs.declared.fragment.Fragment.{Fragment}
 use Rattle.outline_model.specs.Outline.{fragment_at, site_of}
-use Rattle.tiles.specs.Tiles.{Tiling, by_place, first_of}
+use Rattle.tiles.specs.Tiles.{Tiling, by_place, first_of, fragments_of}
 
 -- a set of kernels, fragments in tiles, and how many samples each has to a side
 pub record Setting : Type 0 where
@@ -45,6 +45,10 @@ abbrev pub StaysSmall : Setting → List Swept → List ℤ → Type 0
 StaysSmall s list sums =
     (m q i k lane : ℕ) → m ≤ length list → slice_get (by_place s.tiling) q ≡ Some i → k < 2 * s.samples → lane < lane_count s.set →
     unsigned_abs (slice_index_or sums (number_of s q k lane) (pos 0) +ℤ sum_each (λ one. sample_change s one i k lane) (take m list)) ≤ 2 ^ 62
+
+-- the most steps that it takes to add a rectangle to the fragments of these tiles: 8 for each sample to a side
+abbrev pub most_steps : ℕ → Tiling → List ℕ → ℕ
+most_steps samples tiling tiles = 8 * samples * sum_by (λ k. length (fragments_of tiling k)) tiles
 
 -- ---- by number
 

@@ -37,7 +37,8 @@ pub fn add_if_near<L: Ledger>(
     requires swept { IsSweepable swept }
     requires number { number < length work.now.fragments.now }
     requires sums { AreLanes (stride_of (setting_of work.now)) (2 ^ 62) sums.old }
-    ensures { RisesBy (λ n. sample_change (setting_of work.now) swept number (n / lane_count work.now.tables.now) (n % lane_count work.now.tables.now)) 0 sums.old sums.new }
+    ensures rises { RisesBy (λ n. sample_change (setting_of work.now) swept number (n / lane_count work.now.tables.now) (n % lane_count work.now.tables.now)) 0 sums.old sums.new }
+    ensures cost { steps.new ≤ steps.old + 8 * work.now.samples }
 {
     let at = work.fragments.site(number, -1);
     if sees(work.tables.reach() + work.samples as i32, at, &swept.rect) {
@@ -57,7 +58,8 @@ fn add_to_fragment<L: Ledger>(
     requires swept { IsSweepable swept }
     requires number { number < length work.now.fragments.now }
     requires sums { AreLanes (stride_of (setting_of work.now)) (2 ^ 62) sums.old }
-    ensures { RisesBy (λ n. sample_change (setting_of work.now) swept number (n / lane_count work.now.tables.now) (n % lane_count work.now.tables.now)) 0 sums.old sums.new }
+    ensures rises { RisesBy (λ n. sample_change (setting_of work.now) swept number (n / lane_count work.now.tables.now) (n % lane_count work.now.tables.now)) 0 sums.old sums.new }
+    ensures cost { steps.new ≤ steps.old + 8 * work.now.samples }
 {
     let lanes = work.tables.lanes();
     for sample in 0..2 * work.samples {
@@ -81,7 +83,8 @@ fn add_if_seen<L: Ledger>(
     requires lanes { AreLanes (lane_count tables.now) (2 ^ 62) acc.old }
     requires swept { IsSweepable swept }
     requires at { IsPixWithin 1048100 at }
-    ensures { RisesBy (rect_change tables.now swept.rect swept.sign at.x at.y) 0 acc.old acc.new }
+    ensures rises { RisesBy (rect_change tables.now swept.rect swept.sign at.x at.y) 0 acc.old acc.new }
+    ensures cost { steps.new ≤ steps.old + 4 }
 {
     if sees(tables.reach(), at, &swept.rect) {
         add_rect(acc, tables, at, swept.rect, swept.sign, steps);

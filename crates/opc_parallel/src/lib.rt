@@ -9,11 +9,14 @@
 //!
 //! The clauses that matter: `adds` says that each lane of each sample rises by what all rectangles of the list add there,
 //! for every number of workers; and `cost` that the steps are the pairs of a rectangle and a tile that it reaches.
+//! `apply_one` adds one rectangle alone, and counts every look into the tables.
 #![tactic(auto)]
 
 mod fragment_sums;
+mod one;
 mod parts;
 mod tile_sums;
 mod work;
 
+pub use one::apply_one;
 pub use parts::apply_all;

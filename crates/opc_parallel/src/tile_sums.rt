@@ -1,11 +1,11 @@
 //! What the owner of some tiles adds to them.
 
-ghost use Rattle.std.specs.Prelude.{◌≡◌, ℕ, ◌+◌, ◌*◌, ◌^◌, ◌<◌, ◌≤◌, false, All, length};
+ghost use Rattle.std.specs.Prelude.{◌≡◌, ℕ, ◌+◌, ◌*◌, ◌^◌, ◌<◌, ◌≤◌, true, false, All, length};
 ghost use Rattle.opc_base.specs.Changes.{RisesBy};
 ghost use Rattle.lane_intensity.specs.Differences.{AreLanes};
-ghost use Rattle.tiles.specs.Tiles.{tile_count};
-ghost use Rattle.tiles.specs.Meets.{meet_tile};
-ghost use Rattle.opc_parallel.specs.Stored.{CanTake, change_at, list_change, start_at};
+ghost use Rattle.tiles.specs.Tiles.{fragments_of, tile_count};
+ghost use Rattle.tiles.specs.Meets.{meet_tile, touched_between};
+ghost use Rattle.opc_parallel.specs.Stored.{CanTake, change_at, list_change, most_steps, start_at};
 ghost use Rattle.opc_parallel.specs.Conditions.{IsReady, IsSweepable, setting_of};
 
 use crate::fragment_sums::{add_if_near, stride};
@@ -41,7 +41,7 @@ pub fn apply_tiles<L: Ledger>(
 }
 
 /// Adds a rectangle to those of these tiles that it reaches.
-fn add_to_tiles<L: Ledger>(
+pub fn add_to_tiles<L: Ledger>(
     work: &Work,
     swept: Swept,
     first: u32,
@@ -55,7 +55,8 @@ fn add_to_tiles<L: Ledger>(
     requires tiles { last ≤ tile_count work.now.index.now }
     requires size { start_at (setting_of work.now) first + length sums.old ≡ start_at (setting_of work.now) last }
     requires small { AreLanes (length sums.old) (2 ^ 62) sums.old }
-    ensures { RisesBy (change_at (setting_of work.now) swept) (start_at (setting_of work.now) first) sums.old sums.new }
+    ensures rises { RisesBy (change_at (setting_of work.now) swept) (start_at (setting_of work.now) first) sums.old sums.new }
+    ensures cost { steps.new ≤ steps.old + most_steps work.now.samples work.now.index.now (touched_between work.now.index.now swept.rect first last) }
 {
     let base = start_of_tile(work, first);
     let (low, high) = tiles_near(work.index, &swept.rect, first, last);
@@ -103,7 +104,9 @@ fn add_if_met<L: Ledger>(
     requires tile { tile < tile_count work.now.index.now }
     requires size { start_at (setting_of work.now) tile + length sums.old ≡ start_at (setting_of work.now) (tile + 1) }
     requires small { AreLanes (length sums.old) (2 ^ 62) sums.old }
-    ensures { RisesBy (change_at (setting_of work.now) swept) (start_at (setting_of work.now) tile) sums.old sums.new }
+    ensures rises { RisesBy (change_at (setting_of work.now) swept) (start_at (setting_of work.now) tile) sums.old sums.new }
+    ensures met { meet_tile work.now.index.now swept.rect tile ≡ true → steps.new ≤ steps.old + 8 * work.now.samples * length (fragments_of work.now.index.now tile) }
+    ensures missed { meet_tile work.now.index.now swept.rect tile ≡ false → steps.new ≡ steps.old }
 {
     if work.index.meets(tile, &swept.rect) {
         add_to_tile(work, swept, tile, sums, steps);
@@ -123,7 +126,8 @@ fn add_to_tile<L: Ledger>(
     requires tile { tile < tile_count work.now.index.now }
     requires size { start_at (setting_of work.now) tile + length sums.old ≡ start_at (setting_of work.now) (tile + 1) }
     requires small { AreLanes (length sums.old) (2 ^ 62) sums.old }
-    ensures { RisesBy (change_at (setting_of work.now) swept) (start_at (setting_of work.now) tile) sums.old sums.new }
+    ensures rises { RisesBy (change_at (setting_of work.now) swept) (start_at (setting_of work.now) tile) sums.old sums.new }
+    ensures cost { steps.new ≤ steps.old + 8 * work.now.samples * length (fragments_of work.now.index.now tile) }
 {
     let stride = stride(work);
     for (place, number) in work.index.fragments(tile).iter().enumerate() {

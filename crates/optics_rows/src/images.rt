@@ -4,7 +4,7 @@ ghost use Rattle.std.specs.Prelude.{◌≡◌, ◌<◌, ◌≤◌, All, IfOk, le
 ghost use Rattle.opc_base.specs.Lanes.{AddUpNear, lane_count, weights_of};
 ghost use Rattle.opc_base.specs.Optics.{KeepsBounds};
 ghost use Rattle.opc_base.specs.Plane.{IsPixWithin, IsRectWithin, cover};
-ghost use Rattle.lane_intensity.specs.Differences.{AreLanes, IsCornerWithin};
+ghost use Rattle.lane_intensity.specs.Differences.{AreLanes, IsCornerInRange};
 
 use corners::corners_of;
 use lane_intensity::{add_corners, intensity};
@@ -75,7 +75,7 @@ fn all_corners(
     requires within { All (IsRectWithin 1048000) region.now }
     requires few { length region.now ≤ 65536 }
     requires at { IsPixWithin 1048576 at }
-    ensures each { IfOk result (λ corners. All (IsCornerWithin 1050000) corners.items) }
+    ensures each { IfOk result (λ corners. All (IsCornerInRange 1050000) corners.items) }
     ensures few { IfOk result (λ corners. length corners.items ≤ 1048576) }
     ensures near { IfOk result (λ corners. AddUpNear tables.now.reach corners.items (cover region.now) at.x at.y) }
 {

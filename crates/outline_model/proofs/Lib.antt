@@ -12,3 +12,4 @@ pub mod TargetJoins
 pub mod TargetMask
 pub mod Totals
 pub mod Walk
+pub mod PieceCornerLaws

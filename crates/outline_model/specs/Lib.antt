@@ -2,9 +2,11 @@ pub mod Edges
 pub mod Fragmentation
 pub mod Lengths
 pub mod Limits
+pub mod MaskRange
 pub mod Near
 pub mod Outline
 pub mod Pieces
 pub mod Ranges
 pub mod Rules
 pub mod Target
+pub mod PieceCorners

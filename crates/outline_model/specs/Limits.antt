@@ -3,7 +3,7 @@ use Rattle.std.specs.Prelude.{◌≡◌, ℕ, ◌<◌, ◌≤◌, ℤ, pos, ◌<
 use Rattle.outline_model.specs.declared.fragment.Fragment.{Fragment}
 use Rattle.outline_model.specs.Fragmentation.{IsSomeCut}
 use Rattle.outline_model.specs.Outline.{IsOutline, fragment_at}
-use Rattle.outline_model.specs.Ranges.{IsPlaced, IsWithin}
+use Rattle.outline_model.specs.Ranges.{IsInLayout, IsWithin}
 
 -- the fragments of some region, which form closed walks within the limit of a layout
 pub record IsFragmentList (fs : List Fragment) : Type 0 where
@@ -22,6 +22,6 @@ pub record IsOffsets (fs : List Fragment) (offsets : List ℤ) : Type 0 where
 
 -- a fragment within the limit of a layout
 pub record IsPlacedFragment (f : Fragment) : Type 0 where
-  pub edge : IsPlaced f.edge
-  pub lo : IsPlaced f.lo
-  pub hi : IsPlaced f.hi
+  pub edge : IsInLayout f.edge
+  pub lo : IsInLayout f.lo
+  pub hi : IsInLayout f.hi

@@ -5,5 +5,5 @@ abbrev pub IsWithin : ℕ → ℤ → Type 0
 IsWithin limit z = (neg_ℤ (pos limit) ≤ℤ z) × (z ≤ℤ pos limit)
 
 -- a coordinate of a layout
-abbrev pub IsPlaced : ℤ → Type 0
-IsPlaced z = IsWithin 1048000 z
+abbrev pub IsInLayout : ℤ → Type 0
+IsInLayout z = IsWithin 1048000 z

@@ -7,8 +7,8 @@ use Rattle.opc_base.specs.declared.kernels.Kernel.{Kernel}
 use Rattle.opc_base.specs.declared.kernels.KernelSet.{KernelSet}
 
 -- both parts of a complex number are at most this far from 0
-abbrev pub AreSmall : ℕ → ℤ → ℤ → Type 0
-AreSmall most re im = (unsigned_abs re ≤ most) × (unsigned_abs im ≤ most)
+abbrev pub ArePartsWithin : ℕ → ℤ → ℤ → Type 0
+ArePartsWithin most re im = (unsigned_abs re ≤ most) × (unsigned_abs im ≤ most)
 
 -- what the kernel's place (u, v) gives at the pixel (x, y)
 abbrev pub place_re : KernelSet → Kernel → PixelSet → ℤ → ℤ → ℤ → ℤ → ℤ

@@ -4,7 +4,7 @@ ghost use Rattle.std.specs.Prelude.{◌≡◌, ◌+◌, ◌*◌, ◌^◌, ◌<�
 ghost use Rattle.opc_base.specs.Plane.{IsPixWithin, cover};
 ghost use Rattle.opc_base.specs.Optics.{KeepsBounds, amplitude_im, amplitude_re};
 ghost use Rattle.opc_base.specs.Blocks.{place_at};
-ghost use Rattle.plain_optics.specs.Places.{AreSmall, row_im, row_re};
+ghost use Rattle.plain_optics.specs.Places.{ArePartsWithin, row_im, row_re};
 
 use crate::place::{place_amplitude, width};
 use opc_base::{Kernel, KernelSet, Pix, Rect};
@@ -25,7 +25,7 @@ pub fn plain_amplitude(kernels: &KernelSet, kernel: &Kernel, rects: &[Rect], at:
     requires at { IsPixWithin 1048576 at }
     ensures re { result.re ≡ amplitude_re kernels.now kernel.now (cover rects.now) at.x at.y }
     ensures im { result.im ≡ amplitude_im kernels.now kernel.now (cover rects.now) at.x at.y }
-    ensures small { AreSmall 34080768 result.re result.im }
+    ensures small { ArePartsWithin 34080768 result.re result.im }
 {
     let mut re = 0;
     let mut im = 0;
@@ -51,7 +51,7 @@ fn row_amplitude(
     requires row { row < 2 * kernels.now.reach + 1 }
     ensures re { result.re ≡ row_re kernels.now kernel.now (cover rects.now) at.x at.y (place_at kernels.now.reach row) }
     ensures im { result.im ≡ row_im kernels.now kernel.now (cover rects.now) at.x at.y (place_at kernels.now.reach row) }
-    ensures small { AreSmall (129 * 2048) result.re result.im }
+    ensures small { ArePartsWithin (129 * 2048) result.re result.im }
 {
     let mut re = 0;
     let mut im = 0;

@@ -3,7 +3,7 @@
 ghost use Rattle.std.specs.Prelude.{◌≡◌, ◌*◌, ◌≤◌, unsigned_abs};
 ghost use Rattle.opc_base.specs.Plane.{IsPixWithin, cover};
 ghost use Rattle.opc_base.specs.Optics.{KeepsBounds, intensity, weighted_power};
-ghost use Rattle.plain_optics.specs.Places.{AreSmall};
+ghost use Rattle.plain_optics.specs.Places.{ArePartsWithin};
 
 use crate::amplitude::{Amplitude, plain_amplitude};
 use opc_base::{KernelSet, Pix, Rect};
@@ -27,7 +27,7 @@ pub fn plain_intensity(kernels: &KernelSet, rects: &[Rect], at: Pix) -> i64
 /// What one kernel adds to the intensity.
 fn weighted_power(weight: u16, amplitude: Amplitude) -> i64
     requires weight { weight ≤ 2048 }
-    requires small { AreSmall 34080768 amplitude.re amplitude.im }
+    requires small { ArePartsWithin 34080768 amplitude.re amplitude.im }
     ensures value { result ≡ weighted_power weight amplitude.re amplitude.im }
     ensures small { unsigned_abs result ≤ weight * (2 * 34080768 * 34080768) }
 {

@@ -4,7 +4,7 @@ ghost use Rattle.std.specs.Prelude.{◌≡◌, ◌+◌, ◌*◌, ◌^◌, ◌<�
 ghost use Rattle.opc_base.specs.Plane.{IsPixWithin, cover};
 ghost use Rattle.opc_base.specs.Optics.{IsEntryWithin, KeepsBounds, entry_at, passes, product_im, product_re};
 ghost use Rattle.opc_base.specs.Blocks.{place_at};
-ghost use Rattle.plain_optics.specs.Places.{AreSmall, place_im, place_re};
+ghost use Rattle.plain_optics.specs.Places.{ArePartsWithin, place_im, place_re};
 
 use crate::amplitude::Amplitude;
 use opc_base::{Entry, Kernel, KernelSet, Pix, Rect};
@@ -25,7 +25,7 @@ pub fn place_amplitude(
     requires row { row < 2 * kernels.now.reach + 1 }
     ensures re { result.re ≡ place_re kernels.now kernel.now (cover rects.now) at.x at.y (place_at kernels.now.reach column) (place_at kernels.now.reach row) }
     ensures im { result.im ≡ place_im kernels.now kernel.now (cover rects.now) at.x at.y (place_at kernels.now.reach column) (place_at kernels.now.reach row) }
-    ensures small { AreSmall 2048 result.re result.im }
+    ensures small { ArePartsWithin 2048 result.re result.im }
 {
     let u = column as i32 - i32::from(kernels.reach);
     let v = row as i32 - i32::from(kernels.reach);

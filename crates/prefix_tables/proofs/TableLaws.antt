@@ -14,7 +14,7 @@ use Rattle.opc_base.specs.declared.kernels.Kernel.{Kernel}
 use Rattle.opc_base.specs.declared.kernels.KernelSet.{KernelSet}
 use Rattle.opc_base.proofs.ClampLaws.{block-clamped, block-next}
 use Rattle.opc_base.proofs.OpticsLaws.{entry_at_place, rows_within}
-use Rattle.prefix_tables.specs.Places.{AreSmall, AreTables, HoldsFirst, table_place}
+use Rattle.prefix_tables.specs.Places.{AreNumbersWithin, AreTables, HoldsFirst, table_place}
 
 -- the lanes of a place lie within the table
 pub lanes_within : (width row column lanes : ℕ) → row < width → column < width → (row * width + column) * lanes + lanes ≤ width * width * lanes
@@ -117,7 +117,7 @@ entry_of_lane_at set lane column row kernel bounds in_columns in_rows within rea
     )
 
 -- lanes that are small
-pub LanesAre-small : (set : KernelSet) (f : ℕ → ℤ) (most : ℕ) (xs : List ℤ) → LanesAre set f xs → ((lane : ℕ) → unsigned_abs (f lane) ≤ most) → AreSmall most xs
+pub LanesAre-small : (set : KernelSet) (f : ℕ → ℤ) (most : ℕ) (xs : List ℤ) → LanesAre set f xs → ((lane : ℕ) → unsigned_abs (f lane) ≤ most) → AreNumbersWithin most xs
 LanesAre-small set f most xs lanes small lane within = rw (lanes.each lane (omega (arith, lanes.count))) (small lane)
 
 -- ---- the lanes of a place, as the code takes them from the table

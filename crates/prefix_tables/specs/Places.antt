@@ -20,8 +20,8 @@ HoldsFirst set sums n = (row column lane : ℕ) → column < 2 * set.reach + 2 �
     slice_index_or sums (table_place set row column lane) (pos 0) ≡ block_of_lane set lane (place_before set.reach column) (place_before set.reach row)
 
 -- each number is at most this far from 0
-abbrev pub AreSmall : ℕ → List ℤ → Type 0
-AreSmall most numbers = (i : ℕ) → i < length numbers → unsigned_abs (slice_index_or numbers i (pos 0)) ≤ most
+abbrev pub AreNumbersWithin : ℕ → List ℤ → Type 0
+AreNumbersWithin most numbers = (i : ℕ) → i < length numbers → unsigned_abs (slice_index_or numbers i (pos 0)) ≤ most
 
 -- what a row of the kernel adds to a lane's ground
 abbrev pub ground_row : KernelSet → ℕ → ℤ → ℤ

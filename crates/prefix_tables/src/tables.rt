@@ -5,7 +5,7 @@ ghost use Rattle.std.specs.Int.{int_max, int_min};
 ghost use Rattle.opc_base.specs.Blocks.{place_before};
 ghost use Rattle.opc_base.specs.Lanes.{LanesAre, block_of_lane, ground_of_lane, lane_count};
 ghost use Rattle.opc_base.specs.Optics.{KeepsBounds};
-ghost use Rattle.prefix_tables.specs.Places.{AreSmall, HoldsFirst, table_place, table_size};
+ghost use Rattle.prefix_tables.specs.Places.{AreNumbersWithin, HoldsFirst, table_place, table_size};
 
 use crate::entries::{contrast_of, lanes_of, passed};
 use crate::ground_sums::ground_sums;
@@ -77,7 +77,7 @@ impl Tables {
     #[inline]
     pub fn block<L: Ledger>(&self, dx: i32, dy: i32, steps: &mut Steps<L>) -> &[i64]
         ensures lanes { LanesAre self.now (λ lane. block_of_lane self.now lane dx dy) result.now }
-        ensures small { AreSmall (2 ^ 27) result.now }
+        ensures small { AreNumbersWithin (2 ^ 27) result.now }
         ensures cost { steps.new ≡ steps.old + 1 }
     {
         steps.tick();
@@ -91,7 +91,7 @@ impl Tables {
     /// The lanes' amplitudes where no pixel is covered.
     pub fn ground(&self) -> &[i64]
         ensures lanes { LanesAre self.now (ground_of_lane self.now) result.now }
-        ensures small { AreSmall 34080768 result.now }
+        ensures small { AreNumbersWithin 34080768 result.now }
     {
         &self.uncovered
     }

@@ -19,4 +19,5 @@ pub mod TouchLaws
 pub mod ClosedWalks
 pub mod JoinLaws
 pub mod StripLaws
+pub mod CutLaws
 pub mod OrderLaws

@@ -1,5 +1,5 @@
 -- The lower side of a canonical rectangle has a corner of its own.
-use Rattle.std.proofs.Common.{◌≡◌, ◌≢◌, ◌⊎◌, inl, inr, ℕ, zero, suc, ◌<◌, ◌≤◌, ℤ, pos, ◌+ℤ◌, ◌-ℤ◌, ◌≤ℤ◌, ◌<ℤ◌, int_eq, int_le, unsigned_abs, Bool, true, false, ◌&&◌, if◌then◌else◌, List, [], ◌∷◌, length, get_or, refl, sym, ◌∙◌, subst, arith}
+use Rattle.std.proofs.Common.{◌≡◌, ◌≢◌, ◌⊎◌, inl, inr, ℕ, zero, suc, ◌<◌, ◌≤◌, ℤ, pos, ◌+ℤ◌, ◌-ℤ◌, ◌≤ℤ◌, ◌<ℤ◌, int_eq, int_le, int_lt, unsigned_abs, Bool, true, false, ◌&&◌, if◌then◌else◌, List, [], ◌∷◌, length, get_or, refl, sym, ◌∙◌, ap, subst, arith}
 use Rattle.std.specs.Prelude.{Contains}
 use Rattle.std.proofs.lemmas.Int.{ints, by_lt_z}
 use Rattle.std.proofs.lemmas.List.{get_or_default}
@@ -176,3 +176,145 @@ no_more_corners pixels count most has within more =
 
 pub few_rects : (rects : List Rect) (count : ℕ) → AreCanonical rects → HasCornerCount (cover rects) count → length rects ≤ count
 few_rects rects count canonical has = let counted = has.counted in let few = at_most_corners rects has.points canonical has.complete in omega arith
+
+-- ---- more corners than a number, from so many rectangles
+
+four_bits : (a b c d e f g h : Bool) → a ≡ e → b ≡ f → c ≡ g → d ≡ h
+    → (if a then pos 1 else pos 0) -ℤ (if b then pos 1 else pos 0) -ℤ (if c then pos 1 else pos 0) +ℤ (if d then pos 1 else pos 0)
+    ≡ (if e then pos 1 else pos 0) -ℤ (if f then pos 1 else pos 0) -ℤ (if g then pos 1 else pos 0) +ℤ (if h then pos 1 else pos 0)
+four_bits a b c d e f g h p q r s = rw (p, q, r, s) refl
+
+-- the sign of a point is that of its four pixels
+sign_same : (first second : PixelSet) (x y : ℤ) → first x y ≡ second x y → first (x -ℤ pos 1) y ≡ second (x -ℤ pos 1) y
+    → first x (y -ℤ pos 1) ≡ second x (y -ℤ pos 1) → first (x -ℤ pos 1) (y -ℤ pos 1) ≡ second (x -ℤ pos 1) (y -ℤ pos 1) → sign_at first x y ≡ sign_at second x y
+sign_same first second x y a b c d =
+    four_bits (first x y) (first (x -ℤ pos 1) y) (first x (y -ℤ pos 1)) (first (x -ℤ pos 1) (y -ℤ pos 1))
+    (second x y) (second (x -ℤ pos 1) y) (second x (y -ℤ pos 1)) (second (x -ℤ pos 1) (y -ℤ pos 1)) a b c d
+
+-- a corner of the set on the lower side of the rectangle
+record IsCornerBelow (pixels : PixelSet) (r : Rect) (p : Pix) : Type 0 where
+  pub on : IsOnLowerSide r p
+  pub corner : sign_at pixels p.x p.y ≢ pos 0
+
+abbrev HasNonzero : (ℤ → ℤ) → ℤ → ℕ → Type 0
+HasNonzero f a n = (x : ℤ) × (a ≤ℤ x) × (x ≤ℤ (a +ℤ pos n)) × (f x ≢ pos 0)
+
+abbrev IsZeroFrom : (ℤ → ℤ) → ℤ → ℕ → Type 0
+IsZeroFrom f a n = (x : ℤ) → a ≤ℤ x → x ≤ℤ (a +ℤ pos n) → f x ≡ pos 0
+
+zero_if : (z : ℤ) → int_eq z (pos 0) ≡ true → z ≡ pos 0
+zero_if z is = grind (arith, ints)
+
+nonzero_if : (z : ℤ) → int_eq z (pos 0) ≡ false → z ≢ pos 0
+nonzero_if z is none = (let zero = ap (λ t. int_eq t (pos 0)) none in let never : true ≡ false = sym zero ∙ is in cc)
+
+find_nonzero : (f : ℤ → ℤ) (a : ℤ) (n : ℕ) → HasNonzero f a n ⊎ IsZeroFrom f a n
+find_nonzero f a zero = elim (known (int_eq (f a) (pos 0))) [
+  | inl none ↦ inr (λ x from to. let same : x ≡ a = omega (arith, ints) in ap f same ∙ zero_if (f a) none)
+  | inr some ↦ inl (a, omega (arith, ints), omega (arith, ints), nonzero_if (f a) some)
+]
+find_nonzero f a (suc n) = elim (find_nonzero f a n) [
+  | inl found ↦ inl (found.0, found.1, (let to = found.2 in omega (arith, ints)), found.3)
+  | inr none ↦ elim (known (int_eq (f (a +ℤ pos (suc n))) (pos 0))) [
+    | inl last ↦ inr (λ x from to. by_lt_z x (a +ℤ pos (suc n))
+        (λ less. none x from (omega (arith, ints)))
+        (λ most. let same : x ≡ a +ℤ pos (suc n) = omega (arith, ints) in ap f same ∙ zero_if (f (a +ℤ pos (suc n))) last))
+    | inr some ↦ inl (a +ℤ pos (suc n), omega (arith, ints), omega (arith, ints), nonzero_if (f (a +ℤ pos (suc n))) some)
+  ]
+]
+
+corner_below : (pixels : PixelSet) (r : Rect) → r.x0 <ℤ r.x1 → IsStack pixels r → (p : Pix) × IsCornerBelow pixels r p
+corner_below pixels r wide stack =
+    let steps = ahead r.x0 r.x1 (omega (arith, ints)) in
+    let far : r.x1 ≡ r.x0 +ℤ pos steps.0 = steps.1 in
+    elim (find_nonzero (λ x. sign_at pixels x r.y0) r.x0 steps.0) [
+      | inl found ↦ (
+        record { x = found.0; y = r.y0 },
+        record { on = (refl, found.1, (let to = found.2 in omega (arith, ints))); corner = found.3 },
+      )
+      | inr none ↦ absurd (
+          let high = stack.some in
+          stack.before (row_below pixels r (stack.rows r.y0 (omega (arith, ints)) high) (λ x from to. none x from (omega (arith, ints)))))
+    ]
+
+-- a point for each rectangle
+abbrev HavePoints : PixelSet → List Rect → Type 0
+HavePoints pixels rects = (points : List Pix) × (length points ≡ length rects)
+    × ((k : ℕ) (d : Rect) (e : Pix) → k < length rects → IsCornerBelow pixels (get_or rects k d) (get_or points k e))
+
+abbrev AreStacks : PixelSet → List Rect → Type 0
+AreStacks pixels rects = (k : ℕ) (d : Rect) → k < length rects → ((get_or rects k d).x0 <ℤ (get_or rects k d).x1) × IsStack pixels (get_or rects k d)
+
+point_at : (pixels : PixelSet) (r : Rect) (rects : List Rect) (p : Pix) (points : List Pix) → IsCornerBelow pixels r p
+    → ((k : ℕ) (d : Rect) (e : Pix) → k < length rects → IsCornerBelow pixels (get_or rects k d) (get_or points k e))
+    → (k : ℕ) (d : Rect) (e : Pix) → k < length (r ∷ rects) → IsCornerBelow pixels (get_or (r ∷ rects) k d) (get_or (p ∷ points) k e)
+point_at pixels r rects p points first rest zero d e below = first
+point_at pixels r rects p points first rest (suc k) d e below = rest k d e (omega arith)
+
+points_below : (pixels : PixelSet) (rects : List Rect) → AreStacks pixels rects → HavePoints pixels rects
+points_below pixels [] stacks = ([], refl, λ k d e below. absurd (omega arith))
+points_below pixels (r ∷ rects) stacks =
+    let first = stacks 0 r (omega arith) in
+    let here = corner_below pixels r first.0 first.1 in
+    let rest = points_below pixels rects (λ k d below. stacks (suc k) d (omega arith)) in
+    (here.0 ∷ rest.0, ap suc rest.1, point_at pixels r rects here.0 rest.0 here.1 rest.2)
+
+-- no two of them share a point of their lower sides
+abbrev pub HaveOwnSides : List Rect → Type 0
+HaveOwnSides rects = (i j : ℕ) (d : Rect) (p : Pix) → i < j → j < length rects → IsOnLowerSide (get_or rects i d) p → IsOnLowerSide (get_or rects j d) p → ⊥
+
+-- stacks of a set whose corners at their lower sides are those of the whole one
+pub more_by_sides : (most : ℕ) (whole pixels : PixelSet) (rects : List Rect) → most < length rects → AreStacks pixels rects → HaveOwnSides rects
+    → ((k : ℕ) (d : Rect) (x : ℤ) → k < length rects → sign_at pixels x (get_or rects k d).y0 ≡ sign_at whole x (get_or rects k d).y0)
+    → HasMoreCornersThan most whole
+more_by_sides most whole pixels rects above stacks own same =
+    let found = points_below pixels rects stacks in
+    let some : Rect = record { x0 = pos 0; y0 = pos 0; x1 = pos 0; y1 = pos 0 } in
+    let size : length found.0 ≡ length rects = found.1 in (
+      found.0,
+      omega arith,
+      record {
+        distinct = λ i j e before below together.
+            let first = found.2 i some e (omega arith) in let second = found.2 j some e (omega arith) in
+            own i j some (get_or found.0 j e) before (omega arith) (subst (IsOnLowerSide (get_or rects i some)) together first.on) second.on;
+        corners = λ k e below none.
+            let here = found.2 k some e (omega arith) in let level : (get_or found.0 k e).y ≡ (get_or rects k some).y0 = here.on.0 in
+            here.corner (ap (sign_at pixels (get_or found.0 k e).x) level ∙ same k some (get_or found.0 k e).x (omega arith)
+            ∙ ap (sign_at whole (get_or found.0 k e).x) (sym level) ∙ none);
+      },
+    )
+
+stacks_of : (rects : List Rect) → AreCanonical rects → AreStacks (cover rects) rects
+stacks_of rects canonical k d below =
+    ((canonical.solid k d below).wide, (canonical_for_cover rects canonical).stacks (get_or rects k d) (k, below, get_or_default rects k (get_or rects k d) d below))
+
+sides_of : (rects : List Rect) → AreCanonical rects → HaveOwnSides rects
+sides_of rects canonical i j d p before below first second =
+    no_shared_side (get_or rects i d) (get_or rects j d) (canonical.solid i d (omega arith)) (canonical.solid j d below) (canonical.pairs i j d before below) p first second
+
+-- so many canonical rectangles
+pub more_by_rects : (most : ℕ) (whole : PixelSet) (rects : List Rect) → most < length rects → AreCanonical rects → ((x y : ℤ) → cover rects x y ≡ whole x y)
+    → HasMoreCornersThan most whole
+more_by_rects most whole rects above canonical pixels =
+    more_by_sides most whole (cover rects) rects above (stacks_of rects canonical) (sides_of rects canonical)
+    (λ k d x below. sign_same (cover rects) whole x (get_or rects k d).y0
+    (pixels x (get_or rects k d).y0) (pixels (x -ℤ pos 1) (get_or rects k d).y0)
+    (pixels x ((get_or rects k d).y0 -ℤ pos 1)) (pixels (x -ℤ pos 1) ((get_or rects k d).y0 -ℤ pos 1)))
+
+below_top : (y top : ℤ) (covered wound : Bool) → y <ℤ top → covered ≡ (int_lt y top && wound) → covered ≡ wound
+below_top y top covered wound low is = grind (arith, ints)
+
+-- so many rectangles that are canonical for the rows below a height
+pub more_by_rows : (most : ℕ) (whole : PixelSet) (rects : List Rect) (top : ℤ) → most < length rects → AreCanonical rects
+    → ((k : ℕ) (d : Rect) → k < length rects → (get_or rects k d).y1 ≤ℤ top)
+    → ((x y : ℤ) → cover rects x y ≡ (int_lt y top && whole x y)) → HasMoreCornersThan most whole
+more_by_rows most whole rects top above canonical low pixels =
+    more_by_sides most whole (cover rects) rects above (stacks_of rects canonical) (sides_of rects canonical)
+    (λ k d x below.
+    let y : ℤ = (get_or rects k d).y0 in
+    let high = (canonical.solid k d below).high in let ends = low k d below in
+    let here : (get_or rects k d).y0 <ℤ top = omega (arith, ints) in
+    let under : ((get_or rects k d).y0 -ℤ pos 1) <ℤ top = omega (arith, ints) in
+    let at : (t z : ℤ) → z <ℤ top → cover rects t z ≡ whole t z = λ t z is. below_top z top (cover rects t z) (whole t z) is (pixels t z) in
+    sign_same (cover rects) whole x (get_or rects k d).y0 (at x (get_or rects k d).y0 here) (at (x -ℤ pos 1) (get_or rects k d).y0 here)
+    (at x ((get_or rects k d).y0 -ℤ pos 1) under) (at (x -ℤ pos 1) ((get_or rects k d).y0 -ℤ pos 1) under))

@@ -14,28 +14,28 @@ use Rattle.rect_union.proofs.SumLaws.{sum_each-push, sum_each-more, sum_each-nil
 
 -- ---- lists with one more item
 
-front_of : {X : Type 0} (P : X → Type 0) (xs : List X) (y : X) → All P (xs ++ y ∷ []) → All P xs
+pub front_of : {X : Type 0} (P : X → Type 0) (xs : List X) (y : X) → All P (xs ++ y ∷ []) → All P xs
 front_of P xs y all k d below = subst P (get_or_append_left xs (y ∷ []) d k below) (all k d (simp length-append (omega arith)))
 
-last_of : {X : Type 0} (P : X → Type 0) (xs : List X) (y : X) → All P (xs ++ y ∷ []) → P y
+pub last_of : {X : Type 0} (P : X → Type 0) (xs : List X) (y : X) → All P (xs ++ y ∷ []) → P y
 last_of P xs y all = subst P (get_or-append_seam xs y [] y) (all (length xs) y (simp length-append (omega arith)))
 
-front_pairs : {X : Type 0} (R : X → X → Type 0) (xs : List X) (y : X) → AllPairs R (xs ++ y ∷ []) → AllPairs R xs
+pub front_pairs : {X : Type 0} (R : X → X → Type 0) (xs : List X) (y : X) → AllPairs R (xs ++ y ∷ []) → AllPairs R xs
 front_pairs R xs y pairs i j d before below =
     subst (λ a. R a (get_or xs j d)) (get_or_append_left xs (y ∷ []) d i (omega arith))
     (subst (R (get_or (xs ++ y ∷ []) i d)) (get_or_append_left xs (y ∷ []) d j below) (pairs i j d before (simp length-append (omega arith))))
 
-last_pairs : {X : Type 0} (R : X → X → Type 0) (xs : List X) (y : X) → AllPairs R (xs ++ y ∷ []) → (k : ℕ) (d : X) → k < length xs → R (get_or xs k d) y
+pub last_pairs : {X : Type 0} (R : X → X → Type 0) (xs : List X) (y : X) → AllPairs R (xs ++ y ∷ []) → (k : ℕ) (d : X) → k < length xs → R (get_or xs k d) y
 last_pairs R xs y pairs k d below =
     subst (λ a. R a y) (get_or_append_left xs (y ∷ []) d k below)
     (subst (R (get_or (xs ++ y ∷ []) k d)) (get_or-append_seam xs y [] d) (pairs k (length xs) d below (simp length-append (omega arith))))
 
-all_of_take : {X : Type 0} (P : X → Type 0) (xs : List X) (i : ℕ) → All P (take (i + 1) xs) → All P (take i xs)
+pub all_of_take : {X : Type 0} (P : X → Type 0) (xs : List X) (i : ℕ) → All P (take (i + 1) xs) → All P (take i xs)
 all_of_take P xs i all k d below =
     let bound = simp length-take at below in
     subst P (get_or-take (i + 1) xs k d (omega arith) ∙ sym (get_or-take i xs k d (omega arith))) (all k d (simp length-take (omega arith)))
 
-at_of_take : {X : Type 0} (P : X → Type 0) (xs : List X) (i : ℕ) (d : X) → i < length xs → All P (take (i + 1) xs) → P (get_or xs i d)
+pub at_of_take : {X : Type 0} (P : X → Type 0) (xs : List X) (i : ℕ) (d : X) → i < length xs → All P (take (i + 1) xs) → P (get_or xs i d)
 at_of_take P xs i d below all = subst P (get_or-take (i + 1) xs i d (omega arith)) (all i d (simp length-take (omega arith)))
 
 pub weight_push : (columns : List Column) (c : Column) → weight_of (columns ++ c ∷ []) ≡ weight_of columns + unsigned_abs c.sign
@@ -58,7 +58,7 @@ compacts_itself columns = record {
 two_signs : (test other : Bool) (a b : ℤ) → test ≡ other → (if test then a +ℤ b else pos 0) ≡ (if test then a else pos 0) +ℤ (if other then b else pos 0)
 two_signs test other a b same = grind (arith, ints)
 
-abs_sum : (a b : ℤ) → unsigned_abs (a +ℤ b) ≤ unsigned_abs a + unsigned_abs b
+pub abs_sum : (a b : ℤ) → unsigned_abs (a +ℤ b) ≤ unsigned_abs a + unsigned_abs b
 abs_sum a b = omega (arith, ints)
 
 pub compacts_pair : (front : List Column) (a b : Column) → a.x ≡ b.x → a.owner ≡ b.owner

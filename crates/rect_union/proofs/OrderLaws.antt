@@ -17,15 +17,15 @@ use Rattle.rect_union.specs.Strips.{AreApart, IsApartList}
 -- ---- another order
 
 -- any two at different places
-abbrev AnyTwo : {X : Type 0} → (X → X → Type 0) → List X → Type 0
+abbrev pub AnyTwo : {X : Type 0} → (X → X → Type 0) → List X → Type 0
 AnyTwo {X} R xs = (i j : ℕ) (d : X) → i ≢ j → i < length xs → j < length xs → R (get_or xs i d) (get_or xs j d)
 
-length_swapped : {X : Type 0} (xs : List X) (a b : ℕ) (d : X) → a < length xs → b < length xs → length (swap xs a b) ≡ length xs
+pub length_swapped : {X : Type 0} (xs : List X) (a b : ℕ) (d : X) → a < length xs → b < length xs → length (swap xs a b) ≡ length xs
 length_swapped xs a b d first second =
     subst (λ l. length l ≡ length xs) (swap_is xs a b d first second) (simp length-set (omega arith))
 
 -- what is at a place after a swap
-after_swap : {X : Type 0} (P : X → Type 0) (xs : List X) (a b k : ℕ) (d : X) → a < length xs → b < length xs
+pub after_swap : {X : Type 0} (P : X → Type 0) (xs : List X) (a b k : ℕ) (d : X) → a < length xs → b < length xs
     → (k ≡ b → P (get_or xs a d)) → (k ≡ a → P (get_or xs b d)) → (k ≢ a → k ≢ b → P (get_or xs k d)) → P (get_or (swap xs a b) k d)
 after_swap P xs a b k d first second at_b at_a other =
     subst (λ l. P (get_or l k d)) (swap_is xs a b d first second)
@@ -38,7 +38,7 @@ after_swap P xs a b k d first second at_b at_a other =
           ])
     ])
 
-AnyTwo-swap : {X : Type 0} (R : X → X → Type 0) (xs : List X) (a b : ℕ) → a < length xs → b < length xs → AnyTwo R xs → AnyTwo R (swap xs a b)
+pub AnyTwo-swap : {X : Type 0} (R : X → X → Type 0) (xs : List X) (a b : ℕ) → a < length xs → b < length xs → AnyTwo R xs → AnyTwo R (swap xs a b)
 AnyTwo-swap R xs a b first second two i j d apart below_i below_j =
     let same : length (swap xs a b) ≡ length xs = length_swapped xs a b d first second in
     after_swap (λ x. R x (get_or (swap xs a b) j d)) xs a b i d first second
@@ -49,7 +49,7 @@ AnyTwo-swap R xs a b first second two i j d apart below_i below_j =
     (λ i_a i_b. after_swap (R (get_or xs i d)) xs a b j d first second
     (λ j_b. two i a d i_a (omega arith) first) (λ j_a. two i b d i_b (omega arith) second) (λ j_a j_b. two i j d apart (omega arith) (omega arith)))
 
-AnyTwo-pairs : {X : Type 0} (R : X → X → Type 0) (xs : List X) → ((x y : X) → R x y → R y x) → AllPairs R xs → AnyTwo R xs
+pub AnyTwo-pairs : {X : Type 0} (R : X → X → Type 0) (xs : List X) → ((x y : X) → R x y → R y x) → AllPairs R xs → AnyTwo R xs
 AnyTwo-pairs R xs turn pairs i j d apart below_i below_j = elim (cases_order i j) [
   | inl same ↦ absurd (apart same)
   | inr other ↦ elim other [
@@ -70,7 +70,7 @@ turned r s apart = record {
 abbrev Follows : Rect → Rect → Type 0
 Follows r s = (r.y0 <ℤ s.y0) ⊎ ((r.y0 ≡ s.y0) × (r.x0 ≤ℤ s.x0))
 
-next_start : (y y' x x' : ℤ) → is_lt (ordering_then (int_cmp y' y) (int_cmp x' x)) ≡ false → (y <ℤ y') ⊎ ((y ≡ y') × (x ≤ℤ x'))
+pub next_start : (y y' x x' : ℤ) → is_lt (ordering_then (int_cmp y' y) (int_cmp x' x)) ≡ false → (y <ℤ y') ⊎ ((y ≡ y') × (x ≤ℤ x'))
 next_start y y' x x' is =
     by_lt_z y y' (λ less. inl less) (λ most. by_lt_z y' y
     (λ less. absurd (grind (arith, ints)))

@@ -15,7 +15,7 @@ use Rattle.rect_union.specs.declared.run.Run.{Run}
 use Rattle.rect_union.specs.declared.stack.Growing.{Growing}
 use Rattle.rect_union.specs.RowRuns.{AreRuns, run_has, in_runs}
 use Rattle.opc_base.specs.Canonical.{AreCanonical, IsSolid, Precedes}
-use Rattle.rect_union.specs.Stacks.{IsAddingSlab, IsFirstFrom, IsLeftOfRuns, IsPlaced, HasColumns, EndsAt, HasAllAt, HasPlace, PlacesRun, AreStacked, slab_cover}
+use Rattle.rect_union.specs.Stacks.{IsAddingSlab, IsFirstFrom, IsLeftOfRuns, IsDoneInSlab, HasColumns, EndsAt, HasAllAt, HasPlace, PlacesRun, AreStacked, slab_cover}
 use Rattle.opc_base.specs.Plane.{cover, rect_cover}
 
 -- ---- runs to come
@@ -39,7 +39,7 @@ run_wide runs n run are at is = rw is at (are.some n run at)
 -- ---- one rectangle after another
 
 grows_before : (r s : Rect) (bottom top : ℤ) (runs : List Run) (n : ℕ) (run : Run) → n < length runs → ((d : Run) → get_or runs n d ≡ run)
-    → Precedes r s → IsSolid s → IsPlaced bottom top runs n s → bottom <ℤ top → r.y1 ≡ bottom → r.x0 ≡ run.first
+    → Precedes r s → IsSolid s → IsDoneInSlab bottom top runs n s → bottom <ℤ top → r.y1 ≡ bottom → r.x0 ≡ run.first
     → Precedes (record r { y1 = top }) s
 grows_before r s bottom top runs n run at is before solid placed high ends columns = record {
   sorted = before.sorted;
@@ -51,7 +51,7 @@ grows_before r s bottom top runs n run at is before solid placed high ends colum
 }
 
 appended_after : (r : Rect) (bottom top : ℤ) (runs : List Run) (n : ℕ) (run : Run) → n < length runs → ((d : Run) → get_or runs n d ≡ run)
-    → IsSolid r → IsPlaced bottom top runs n r → bottom <ℤ top
+    → IsSolid r → IsDoneInSlab bottom top runs n r → bottom <ℤ top
     → (r.y1 ≡ bottom → r.x0 ≡ run.first → r.x1 ≢ run.past)
     → Precedes r (record { x0 = run.first; y0 = bottom; x1 = run.past; y1 = top })
 appended_after r bottom top runs n run at is solid placed high absent = record {
@@ -113,7 +113,7 @@ HasPlace-push growing g place has =
 HasPlace-last : (growing : List Growing) (g : Growing) → HasPlace (growing ++ g ∷ []) g.place
 HasPlace-last growing g = (length growing, simp length-append (omega arith), λ d. ap (λ (h : Growing). h.place) (get_or-append_seam growing g [] d))
 
-later_placed : (bottom top : ℤ) (runs : List Run) (n : ℕ) (r : Rect) → IsPlaced bottom top runs n r → IsPlaced bottom top runs (n + 1) r
+later_placed : (bottom top : ℤ) (runs : List Run) (n : ℕ) (r : Rect) → IsDoneInSlab bottom top runs n r → IsDoneInSlab bottom top runs (n + 1) r
 later_placed bottom top runs n r placed = record {
   low = placed.low;
   done = elim placed.done [ inl below ↦ inl below | inr here ↦ inr (here.0, left_of_later runs n r.x1 here.1) ];
@@ -220,7 +220,7 @@ HasAllAt-grow_top rects place top d grown run complete i below ends =
 
 AreCanonical-grow : (bottom top : ℤ) (runs : List Run) (rects : List Rect) (n : ℕ) (run : Run) (place : ℕ) (d : Rect)
     → bottom <ℤ top → n < length runs → ((e : Run) → get_or runs n e ≡ run)
-    → IsFound rects bottom run place → All (IsPlaced bottom top runs n) rects → AreCanonical rects → AreCanonical (grow rects place top d)
+    → IsFound rects bottom run place → All (IsDoneInSlab bottom top runs n) rects → AreCanonical rects → AreCanonical (grow rects place top d)
 AreCanonical-grow bottom top runs rects n run place d high at is found placed canonical =
     let r : Rect = get_or rects place d in
     let ends : (get_or rects place d).y1 ≡ bottom = found.ends d in
@@ -251,7 +251,7 @@ adding_grows bottom top runs growing rects grown next n found run place d high a
     let wide : run.first <ℤ run.past = run_wide runs n run are at is in
     record {
       canonical = AreCanonical-grow bottom top runs rects n run place d high at is it adding.placed adding.canonical;
-      placed = λ k e in_list. after_set (IsPlaced bottom top runs (n + 1)) rects place r k e in_list
+      placed = λ k e in_list. after_set (IsDoneInSlab bottom top runs (n + 1)) rects place r k e in_list
           (λ _. record { low = (adding.placed place d inside).low; done = inr (refl, left_of_run runs n run (get_or rects place d).x1 are at is (let past = it.past d in omega (arith, ints))) })
           (λ _ within. later_placed bottom top runs n (get_or rects k e) (adding.placed k e within));
       sorted = adding.sorted;
@@ -371,7 +371,7 @@ adding_appends bottom top runs growing rects grown next n found run high are at 
             (λ k e within. appended_after (get_or rects k e) bottom top runs n run at is (adding.canonical.solid k e within) (adding.placed k e within) high
             (absent bottom top runs growing rects grown next n found run at is adding first other k e within));
       };
-      placed = All-push (IsPlaced bottom top runs (n + 1)) rects r
+      placed = All-push (IsDoneInSlab bottom top runs (n + 1)) rects r
           (λ k e within. later_placed bottom top runs n (get_or rects k e) (adding.placed k e within))
           (record { low = omega (arith, ints); done = inr (refl, left_of_run runs n run run.past are at is (omega (arith, ints))) });
       sorted = adding.sorted;

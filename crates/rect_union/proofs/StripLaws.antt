@@ -1,6 +1,6 @@
 -- Rectangles that are swept strip by strip.
-use Rattle.std.proofs.Common.{◌≡◌, ◌⊎◌, inl, inr, ℕ, ◌+◌, ◌<◌, ◌≤◌, ℤ, pos, ◌-ℤ◌, ◌≤ℤ◌, ◌<ℤ◌, int_le, int_lt, unsigned_abs, Bool, true, false, ◌&&◌, ◌||◌, List, [], ◌∷◌, ◌++◌, length, get_or, take, take_all, refl, sym, ◌∙◌, ap, subst, arith}
-use Rattle.std.specs.Prelude.{All}
+use Rattle.std.proofs.Common.{◌≡◌, ◌≢◌, ◌⊎◌, inl, inr, ℕ, zero, suc, ◌+◌, ◌<◌, ◌≤◌, ℤ, pos, ◌-ℤ◌, ◌≤ℤ◌, ◌<ℤ◌, int_le, int_lt, unsigned_abs, Bool, true, false, ◌&&◌, ◌||◌, List, [], ◌∷◌, ◌++◌, length, get_or, take, take_all, refl, sym, ◌∙◌, ap, subst, arith}
+use Rattle.std.specs.Prelude.{All, AllPairs}
 use Rattle.std.specs.Int.{int_max, int_min}
 use Rattle.std.proofs.lemmas.Int.{ints, by_lt_z, clamps}
 use Rattle.std.proofs.lemmas.List.{get_or_default}
@@ -8,12 +8,14 @@ use Rattle.std.proofs.lemmas.List.Elements.{All-push}
 use Rattle.std.proofs.lemmas.List.Quantifiers.{all_pairs_push}
 use Rattle.std.proofs.lemmas.List.Folds.{list_any-append, list_any_at, list_any_more, Any-from_list_any}
 use Rattle.opc_base.specs.declared.plane.Rect.{Rect}
-use Rattle.opc_base.specs.Canonical.{AreCanonical, IsSolid, Precedes}
-use Rattle.opc_base.specs.Cover.{AreRectangles}
-use Rattle.opc_base.specs.Plane.{IsRectWithin, cover, rect_cover}
+use Rattle.opc_base.specs.Canonical.{AreCanonical, IsSolid, IsStack, Precedes, RunsInRow}
+use Rattle.opc_base.specs.Plane.{IsRectWithin, PixelSet, cover, rect_cover}
+use Rattle.opc_base.specs.Target.{HasMoreCornersThan}
+use Rattle.std.proofs.lemmas.Bool.Decides.{eqb_tells}
 use Rattle.opc_base.proofs.CanonicalLaws.{row_of}
-use Rattle.rect_union.specs.Strips.{AreApart, AreParted, HaveGap, IsSharing}
-use Rattle.rect_union.proofs.LowerSides.{known}
+use Rattle.rect_union.specs.declared.strips.Strips.{Strips}
+use Rattle.rect_union.specs.Strips.{AreApart, AreInPlane, AreParted, AreStrips, HaveGap, IsApartList, IsInLimit, IsSharing, Widens}
+use Rattle.rect_union.proofs.LowerSides.{HaveOwnSides, known, more_by_sides}
 use Rattle.rect_union.proofs.WithinLaws.{rects_within}
 
 -- ---- two rectangles
@@ -80,15 +82,15 @@ part_is_right : (a right : ℤ) → int_min a right ≤ℤ a
 part_is_right a right = grind (arith, ints, clamps)
 
 pub places_part : (seen : List Rect) (r s : Rect) (left right : ℤ) → s.x0 ≡ int_max r.x0 left → s.x1 ≡ int_min r.x1 right → s.y0 ≡ r.y0 → s.y1 ≡ r.y1
-    → s.x0 <ℤ s.x1 → IsSolid r → IsRectWithin 1048000 r → AreRectangles seen → AreRectangles (seen ++ s ∷ [])
+    → s.x0 <ℤ s.x1 → IsSolid r → IsRectWithin 1048576 r → AreInPlane seen → AreInPlane (seen ++ s ∷ [])
 places_part seen r s left right from to low high wide solid within placed =
     let start : r.x0 ≤ℤ s.x0 = subst (λ z. r.x0 ≤ℤ z) (sym from) (part_is_left r.x0 left) in
     let ends : s.x1 ≤ℤ r.x1 = subst (λ z. z ≤ℤ r.x1) (sym to) (part_is_right r.x1 right) in
-    let near = within_sides 1048000 r.x0 s.x0 s.x1 r.x1 within.0 within.2 start wide ends in
+    let near = within_sides 1048576 r.x0 s.x0 s.x1 r.x1 within.0 within.2 start wide ends in
     record {
       solid = All-push IsSolid seen s placed.solid (record { wide = wide; high = (let tall = solid.high in omega (arith, ints)) });
-      within = All-push (IsRectWithin 1048000) seen s placed.within
-          (near.0, subst (λ z. unsigned_abs z ≤ 1048000) (sym low) within.1, near.1, subst (λ z. unsigned_abs z ≤ 1048000) (sym high) within.3);
+      within = All-push (IsRectWithin 1048576) seen s placed.within
+          (near.0, subst (λ z. unsigned_abs z ≤ 1048576) (sym low) within.1, near.1, subst (λ z. unsigned_abs z ≤ 1048576) (sym high) within.3);
     }
 
 in_strip_more : (seen reaching left right before here after : Bool) → seen ≡ (reaching || (left && right && before)) → after ≡ (before || here)
@@ -167,6 +169,15 @@ open_on reaching border x y t reach on from to =
     let left = here.left in
     list_any_at (λ r. rect_cover r t y) reaching found.0 some found.1.below
     (covers (get_or reaching found.0 some) t y (omega (arith, ints)) (omega (arith, ints)) here.low here.high)
+
+or_right : (a b : Bool) → b ≡ true → (a || b) ≡ true
+or_right true b on = refl
+or_right false b on = on
+
+below_or : (i j : ℕ) → (i < j) ⊎ (j ≤ i)
+below_or i zero = inr (omega arith)
+below_or zero (suc j) = inl (omega arith)
+below_or (suc i) (suc j) = elim (below_or i j) [ inl less ↦ inl (omega arith) | inr most ↦ inr (omega arith) ]
 
 true_false : true ≡ false → ⊥
 true_false same = cc
@@ -322,7 +333,7 @@ sharing_done before swept next i done reaching r canonical at is left sharing =
     }
 
 pub sharing_open : (rects first before swept : List Rect) (border next : ℤ) (i : ℕ) (done reaching : List Rect) (r : Rect) → IsStripSwept rects first swept border next
-    → AreRectangles swept → i < length swept → ((d : Rect) → get_or swept i d ≡ r)
+    → AreInPlane swept → i < length swept → ((d : Rect) → get_or swept i d ≡ r)
     → next ≤ℤ r.x1 → IsSharing before swept next i done reaching → IsSharing before swept next (i + 1) done (reaching ++ r ∷ [])
 sharing_open rects first before swept border next i done reaching r strip rectangles at is right sharing =
     let parted = sharing.parted in
@@ -334,7 +345,7 @@ sharing_open rects first before swept border next i done reaching r strip rectan
         left = parted.left;
         placed = record {
           solid = All-push IsSolid reaching r parted.placed.solid (subst IsSolid (is r) (rectangles.solid i r at));
-          within = All-push (IsRectWithin 1048000) reaching r parted.placed.within (subst (IsRectWithin 1048000) (is r) (rectangles.within i r at));
+          within = All-push (IsRectWithin 1048576) reaching r parted.placed.within (subst (IsRectWithin 1048576) (is r) (rectangles.within i r at));
         };
         reach = All-push (λ (s : Rect). s.x1 ≡ next) reaching r parted.reach (omega (arith, ints));
         gaps = λ k e below. All-push (HaveGap (get_or done k e)) reaching r (parted.gaps k e below)
@@ -351,17 +362,50 @@ sharing_open rects first before swept border next i done reaching r strip rectan
           (sym (list_any_more f swept i r at ∙ ap (λ (s : Rect). cover (take i swept) x y || rect_cover s x y) (is r)));
     }
 
-widened : (border next x : ℤ) (now before swept reaching rects : Bool) → border <ℤ next → now ≡ (before || swept)
-    → swept ≡ (reaching || (int_le border x && int_lt x next && rects)) → (before || reaching) ≡ (int_lt x border && rects) → now ≡ (int_lt x next && rects)
-widened border next x now before swept reaching true further is strip old = grind (arith, ints)
-widened border next x now before swept reaching false further is strip old = grind (arith, ints)
+with_part : (before swept first part : Bool) → swept ≡ (first || part) → (before || swept) ≡ ((before || first) || part)
+with_part before swept first part is = grind arith
 
 pub sharing_ends : (rects before first swept : List Rect) (border next : ℤ) (i : ℕ) (done reaching : List Rect) → IsStripSwept rects first swept border next
-    → ((x y : ℤ) → (cover before x y || cover first x y) ≡ (int_lt x border && cover rects x y)) → length swept ≤ i → IsSharing before swept next i done reaching
-    → (x y : ℤ) → (cover done x y || cover reaching x y) ≡ (int_lt x next && cover rects x y)
-sharing_ends rects before first swept border next i done reaching strip old whole sharing x y =
-    widened border next x (cover done x y || cover reaching x y) (cover before x y) (cover swept x y) (cover first x y) (cover rects x y) strip.further
-    (sharing.pixels x y ∙ ap (λ (l : List Rect). cover before x y || cover l x y) (take_all i swept whole)) (strip.pixels x y) (old x y)
+    → length swept ≤ i → IsSharing before swept next i done reaching
+    → (x y : ℤ) → (cover done x y || cover reaching x y) ≡ ((cover before x y || cover first x y) || (int_le border x && int_lt x next && cover rects x y))
+sharing_ends rects before first swept border next i done reaching strip all sharing x y =
+    sharing.pixels x y
+    ∙ ap (λ (l : List Rect). cover before x y || cover l x y) (take_all i swept all)
+    ∙ with_part (cover before x y) (cover swept x y) (cover first x y) (int_le border x && int_lt x next && cover rects x y) (strip.pixels x y)
+
+pub nothing_wider : (border x : ℤ) (now rects : Bool) → now ≡ (now || (int_le border x && int_lt x border && rects))
+nothing_wider border x true rects = refl
+nothing_wider border x false rects = grind (arith, ints)
+
+left_of_both : (border next x : ℤ) (now old rects whole : Bool) → border ≤ℤ next → x <ℤ border → now ≡ (old || (int_le border x && int_lt x next && rects))
+    → old ≡ (int_lt x border && whole) → now ≡ (int_lt x next && whole)
+left_of_both border next x now true rects whole up left is so_far = grind (arith, ints)
+left_of_both border next x now false rects whole up left is so_far = grind (arith, ints)
+
+between_both : (border next x : ℤ) (now old rects whole : Bool) → border ≤ℤ x → x <ℤ next → now ≡ (old || (int_le border x && int_lt x next && rects))
+    → old ≡ (int_lt x border && whole) → rects ≡ whole → now ≡ (int_lt x next && whole)
+between_both border next x now true rects whole from to is so_far same = grind (arith, ints)
+between_both border next x now false rects whole from to is so_far same = grind (arith, ints)
+
+right_of_both : (border next x : ℤ) (now old rects whole : Bool) → border ≤ℤ next → next ≤ℤ x → now ≡ (old || (int_le border x && int_lt x next && rects))
+    → old ≡ (int_lt x border && whole) → now ≡ (int_lt x next && whole)
+right_of_both border next x now true rects whole up out is so_far = grind (arith, ints)
+right_of_both border next x now false rects whole up out is so_far = grind (arith, ints)
+
+-- strips of a set stay so, where the rectangles cover what the set has between the borders
+pub widened_strips : (whole : PixelSet) (rects : List Rect) (old new : Strips) → AreStrips whole old → Widens rects old new
+    → ((x y : ℤ) → old.border ≤ℤ x → x <ℤ new.border → cover rects x y ≡ whole x y) → AreStrips whole new
+widened_strips whole rects old new strips widens same = record {
+  parted = widens.parted;
+  pixels = λ x y. by_lt_z x old.border
+      (λ left. left_of_both old.border new.border x (cover new.done.items x y || cover new.reaching.items x y) (cover old.done.items x y || cover old.reaching.items x y)
+      (cover rects x y) (whole x y) widens.further left (widens.pixels x y) (strips.pixels x y))
+      (λ from. by_lt_z x new.border
+      (λ to. between_both old.border new.border x (cover new.done.items x y || cover new.reaching.items x y) (cover old.done.items x y || cover old.reaching.items x y)
+      (cover rects x y) (whole x y) from to (widens.pixels x y) (strips.pixels x y) (same x y from to))
+      (λ out. right_of_both old.border new.border x (cover new.done.items x y || cover new.reaching.items x y) (cover old.done.items x y || cover old.reaching.items x y)
+      (cover rects x y) (whole x y) widens.further out (widens.pixels x y) (strips.pixels x y)));
+}
 
 -- ---- the last border
 
@@ -383,22 +427,211 @@ parted_starts border = record {
   gaps = λ k d below. absurd (omega arith);
 }
 
-pub starts_empty : (rects : List Rect) (border x y : ℤ) → AreRectangles rects → border ≤ℤ (pos 0 -ℤ pos 1048000) → (false || false) ≡ (int_lt x border && cover rects x y)
-starts_empty rects border x y placed low = elim (known (cover rects x y)) [
-  | inl on ↦ (let limit = rects_within 1048000 rects x y placed.within on in let left = limit.left in grind (arith, ints))
+abbrev pub LiesInLimit : PixelSet → Type 0
+LiesInLimit whole = (x y : ℤ) → whole x y ≡ true → IsInLimit 1048576 x y
+
+pub starts_empty : (whole : PixelSet) (border x y : ℤ) → LiesInLimit whole → border ≤ℤ (pos 0 -ℤ pos 1048576) → (false || false) ≡ (int_lt x border && whole x y)
+starts_empty whole border x y inside low = elim (known (whole x y)) [
+  | inl on ↦ (let limit = inside x y on in let left = limit.left in grind (arith, ints))
   | inr off ↦ grind (arith, ints)
 ]
 
-pub strips_end : (rects done reaching : List Rect) (border x y : ℤ) → AreRectangles rects → All (λ r. r.x1 ≡ border) reaching → pos 1048576 ≤ℤ border
-    → ((t s : ℤ) → (cover done t s || cover reaching t s) ≡ (int_lt t border && cover rects t s)) → cover done x y ≡ cover rects x y
-strips_end rects done reaching border x y placed reach far pixels =
-    let only : cover rects x y ≡ true → x <ℤ border = λ on. let limit = rects_within 1048000 rects x y placed.within on in let right = limit.right in omega (arith, ints) in
+pub rects_inside : (rects : List Rect) → AreInPlane rects → LiesInLimit (cover rects)
+rects_inside rects placed x y on = rects_within 1048576 rects x y placed.within on
+
+pub strips_end : (whole : PixelSet) (done reaching : List Rect) (border x y : ℤ) → LiesInLimit whole → All (λ r. r.x1 ≡ border) reaching → pos 1048577 ≤ℤ border
+    → ((t s : ℤ) → (cover done t s || cover reaching t s) ≡ (int_lt t border && whole t s)) → cover done x y ≡ whole x y
+strips_end whole done reaching border x y inside reach far pixels =
+    let only : whole x y ≡ true → x <ℤ border = λ on. let limit = inside x y on in let right = limit.right in omega (arith, ints) in
     let closed : cover reaching x y ≡ true → ⊥ = λ on.
-    let found = open_at reaching border x y reach on in
+    let last : cover reaching (border -ℤ pos 1) y ≡ true =
+    (let found = open_at reaching border x y reach on in
     let some : Rect = record { x0 = pos 0; y0 = pos 0; x1 = pos 0; y1 = pos 0 } in
     let inside = (found.1.here some).right in let ends = found.1.reach some in
-    let last : cover reaching (border -ℤ pos 1) y ≡ true = open_on reaching border x y (border -ℤ pos 1) reach on (omega (arith, ints)) (omega (arith, ints)) in
-    let there : cover rects (border -ℤ pos 1) y ≡ true =
-    and_right (int_lt (border -ℤ pos 1) border) (cover done (border -ℤ pos 1) y) (cover reaching (border -ℤ pos 1) y) (cover rects (border -ℤ pos 1) y) last (pixels (border -ℤ pos 1) y) in
-    let limit = rects_within 1048000 rects (border -ℤ pos 1) y placed.within there in let right = limit.right in omega (arith, ints) in
-    only_done x border (cover done x y) (cover reaching x y) (cover rects x y) closed only (pixels x y)
+    open_on reaching border x y (border -ℤ pos 1) reach on (omega (arith, ints)) (omega (arith, ints))) in
+    let there : whole (border -ℤ pos 1) y ≡ true =
+    and_right (int_lt (border -ℤ pos 1) border) (cover done (border -ℤ pos 1) y) (cover reaching (border -ℤ pos 1) y) (whole (border -ℤ pos 1) y) last (pixels (border -ℤ pos 1) y) in
+    let limit = inside (border -ℤ pos 1) y there in let right = limit.right in omega (arith, ints) in
+    only_done x border (cover done x y) (cover reaching x y) (whole x y) closed only (pixels x y)
+
+-- ---- the rectangles that are done are stacks of the whole
+
+record HasDoneAt (done : List Rect) (x y : ℤ) (k : ℕ) : Type 0 where
+  pub below : k < length done
+  pub here : (d : Rect) → IsIn (get_or done k d) x y
+
+done_at : (done : List Rect) (x y : ℤ) → cover done x y ≡ true → (k : ℕ) × HasDoneAt done x y k
+done_at done x y on =
+    let found = Any-from_list_any (λ r. rect_cover r x y) done on in
+    let at : found.0 < length done = found.2 in
+    let here : rect_cover (get_or done found.0 found.1) x y ≡ true = ap (λ (r : Rect). rect_cover r x y) found.3 ∙ found.4 in (
+      found.0,
+      record {
+        below = at;
+        here = λ d. subst (λ (r : Rect). IsIn r x y) (get_or_default done found.0 found.1 d at) (in_rect (get_or done found.0 found.1) x y here);
+      },
+    )
+
+turned_apart : (r s : Rect) → AreApart r s → AreApart s r
+turned_apart r s apart = record {
+  gap = other_way r s apart.gap;
+  below = λ touch left right. apart.above touch (sym left) (sym right);
+  above = λ touch left right. apart.below touch (sym left) (sym right);
+}
+
+two_apart : (done : List Rect) (i j : ℕ) (d : Rect) → AllPairs AreApart done → i ≢ j → i < length done → j < length done → AreApart (get_or done i d) (get_or done j d)
+two_apart done i j d pairs differ first second = elim (below_or i j) [
+  | inl less ↦ pairs i j d less second
+  | inr most ↦ turned_apart (get_or done j d) (get_or done i d) (pairs j i d (omega arith) first)
+]
+
+-- what has a gap to a rectangle is not beside it
+not_beside : (r s : Rect) (x y : ℤ) → HaveGap r s → IsSolid r → r.y0 ≤ℤ y → y <ℤ r.y1 → IsIn s x y → (r.x0 -ℤ pos 1) ≤ℤ x → x ≤ℤ r.x1 → ⊥
+not_beside r s x y gap solid low high in_s from to =
+    let a = in_s.left in let b = in_s.right in let c = in_s.low in let e = in_s.high in let wide = solid.wide in
+    elim (gap (omega (arith, ints)) (omega (arith, ints))) [ inl left ↦ omega (arith, ints) | inr right ↦ omega (arith, ints) ]
+
+either : (a b : Bool) → (a || b) ≡ true → (a ≡ true) ⊎ (b ≡ true)
+either true b is = inl refl
+either false b is = inr is
+
+left_of_border : (border x : ℤ) (both whole : Bool) → both ≡ (int_lt x border && whole) → x <ℤ border → both ≡ whole
+left_of_border border x both whole is left = grind (arith, ints)
+
+record IsCutAt (whole : PixelSet) (done reaching : List Rect) (border : ℤ) : Type 0 where
+  pub parted : AreParted done reaching border
+  pub pixels : (x y : ℤ) → x <ℤ border → (cover done x y || cover reaching x y) ≡ whole x y
+
+-- a pixel left of the border is of one that is done or of one that reaches the border
+found_at : (whole : PixelSet) (done reaching : List Rect) (border x y : ℤ) → IsCutAt whole done reaching border → x <ℤ border → whole x y ≡ true
+    → ((k : ℕ) × HasDoneAt done x y k) ⊎ ((k : ℕ) × HasOpenAt reaching border x y k)
+found_at whole done reaching border x y cut left on = elim (either (cover done x y) (cover reaching x y) (cut.pixels x y left ∙ on)) [
+  | inl is ↦ inl (done_at done x y is)
+  | inr is ↦ inr (open_at reaching border x y cut.parted.reach is)
+]
+
+covered_by_done : (whole : PixelSet) (done reaching : List Rect) (border x y : ℤ) (k : ℕ) (d : Rect) → IsCutAt whole done reaching border → k < length done
+    → IsIn (get_or done k d) x y → whole x y ≡ true
+covered_by_done whole done reaching border x y k d cut at inside =
+    let right = inside.right in let ends = cut.parted.left k d at in
+    sym (cut.pixels x y (omega (arith, ints)))
+    ∙ or_left (cover done x y) (cover reaching x y) (cover done x y || cover reaching x y) refl (swept_on done k d x y at inside.left inside.right inside.low inside.high)
+
+-- beside a rectangle that is done nothing is covered
+nothing_beside : (whole : PixelSet) (done reaching : List Rect) (border x y : ℤ) (k : ℕ) (d : Rect) → IsCutAt whole done reaching border → k < length done
+    → (get_or done k d).y0 ≤ℤ y → y <ℤ (get_or done k d).y1 → ((get_or done k d).x0 -ℤ pos 1) ≤ℤ x → x ≤ℤ (get_or done k d).x1
+    → (x <ℤ (get_or done k d).x0) ⊎ ((get_or done k d).x1 ≤ℤ x) → whole x y ≡ false
+nothing_beside whole done reaching border x y k d cut at low high from to outside = elim (known (whole x y)) [
+  | inr off ↦ off
+  | inl on ↦ (let solid = cut.parted.apart.solid k d at in let ends = cut.parted.left k d at in
+      absurd (elim (found_at whole done reaching border x y cut (omega (arith, ints)) on) [
+        | inl found ↦ (let j : ℕ = found.0 in let here : IsIn (get_or done found.0 d) x y = found.1.here d in
+            elim (eqb_tells k found.0) [
+              | inl w ↦ (let same : get_or done k d ≡ get_or done found.0 d = ap (λ i. get_or done i d) w.1 in
+                  let own : IsIn (get_or done k d) x y = subst (λ (r : Rect). IsIn r x y) (sym same) here in
+                  let a = own.left in let b = own.right in elim outside [ inl less ↦ omega (arith, ints) | inr more ↦ omega (arith, ints) ])
+              | inr w ↦ not_beside (get_or done k d) (get_or done found.0 d) x y (two_apart done k found.0 d cut.parted.apart.pairs w.1 at found.1.below).gap solid low high here from to
+            ])
+        | inr found ↦ not_beside (get_or done k d) (get_or reaching found.0 d) x y (cut.parted.gaps k d at found.0 d found.1.below) solid low high (found.1.here d) from to
+      ]))
+]
+
+done_rows : (whole : PixelSet) (done reaching : List Rect) (border y : ℤ) (k : ℕ) (d : Rect) → IsCutAt whole done reaching border → k < length done
+    → (get_or done k d).y0 ≤ℤ y → y <ℤ (get_or done k d).y1 → RunsInRow whole (get_or done k d) y
+done_rows whole done reaching border y k d cut at low high =
+    let wide = (cut.parted.apart.solid k d at).wide in
+    record {
+      some = wide;
+      all = λ t from to. covered_by_done whole done reaching border t y k d cut at (record { left = from; right = to; low = low; high = high });
+      before = nothing_beside whole done reaching border ((get_or done k d).x0 -ℤ pos 1) y k d cut at low high (omega (arith, ints)) (omega (arith, ints)) (inl (omega (arith, ints)));
+      after = nothing_beside whole done reaching border (get_or done k d).x1 y k d cut at low high (omega (arith, ints)) (omega (arith, ints)) (inr (omega (arith, ints)));
+    }
+
+both_ways : (b : Bool) → b ≡ true → b ≡ false → ⊥
+both_ways b on off = true_false (sym on ∙ off)
+
+-- a row with the same run is of another one that is done, with the same columns
+record HasSameColumns (done : List Rect) (r : Rect) (y : ℤ) (j : ℕ) (d : Rect) : Type 0 where
+  pub below : j < length done
+  pub here : IsIn (get_or done j d) r.x0 y
+  pub left : (get_or done j d).x0 ≡ r.x0
+  pub right : (get_or done j d).x1 ≡ r.x1
+
+same_columns : (whole : PixelSet) (done reaching : List Rect) (border y : ℤ) (r d : Rect) → IsCutAt whole done reaching border → r.x1 <ℤ border
+    → RunsInRow whole r y → (j : ℕ) × HasSameColumns done r y j d
+same_columns whole done reaching border y r d cut ends run =
+    let wide = run.some in
+    elim (found_at whole done reaching border r.x0 y cut (omega (arith, ints)) (run.all r.x0 (omega (arith, ints)) wide)) [
+      | inr found ↦ absurd (
+          let here : IsIn (get_or reaching found.0 d) r.x0 y = found.1.here d in let reach = found.1.reach d in let a = here.left in
+          let on : cover reaching r.x1 y ≡ true = swept_on reaching found.0 d r.x1 y found.1.below (omega (arith, ints)) (omega (arith, ints)) here.low here.high in
+          both_ways (whole r.x1 y) (sym (cut.pixels r.x1 y ends) ∙ or_right (cover done r.x1 y) (cover reaching r.x1 y) on) run.after)
+      | inl found ↦ (let here : IsIn (get_or done found.0 d) r.x0 y = found.1.here d in
+          let solid = cut.parted.apart.solid found.0 d found.1.below in
+          let a = here.left in let b = here.right in (
+            found.0,
+            record {
+              below = found.1.below;
+              here = here;
+              left = by_lt_z (get_or done found.0 d).x0 r.x0
+                  (λ less. absurd (both_ways (whole (r.x0 -ℤ pos 1) y)
+                  (covered_by_done whole done reaching border (r.x0 -ℤ pos 1) y found.0 d cut found.1.below
+                  (record { left = omega (arith, ints); right = omega (arith, ints); low = here.low; high = here.high })) run.before))
+                  (λ most. omega (arith, ints));
+              right = by_lt_z (get_or done found.0 d).x1 r.x1
+                  (λ less. absurd (both_ways (whole (get_or done found.0 d).x1 y) (run.all (get_or done found.0 d).x1 (omega (arith, ints)) less)
+                  (nothing_beside whole done reaching border (get_or done found.0 d).x1 y found.0 d cut found.1.below here.low here.high
+                  (omega (arith, ints)) (omega (arith, ints)) (inr (omega (arith, ints))))))
+                  (λ most. by_lt_z r.x1 (get_or done found.0 d).x1
+                  (λ more. absurd (both_ways (whole r.x1 y)
+                  (covered_by_done whole done reaching border r.x1 y found.0 d cut found.1.below
+                  (record { left = omega (arith, ints); right = more; low = here.low; high = here.high })) run.after))
+                  (λ least. omega (arith, ints)));
+            },
+          ))
+    ]
+
+done_stack : (whole : PixelSet) (done reaching : List Rect) (border : ℤ) (k : ℕ) (d : Rect) → IsCutAt whole done reaching border → k < length done
+    → IsStack whole (get_or done k d)
+done_stack whole done reaching border k d cut at =
+    let solid = cut.parted.apart.solid k d at in let wide = solid.wide in let tall = solid.high in let ends = cut.parted.left k d at in
+    record {
+      some = tall;
+      rows = λ y low high. done_rows whole done reaching border y k d cut at low high;
+      before = λ run.
+          let found = same_columns whole done reaching border ((get_or done k d).y0 -ℤ pos 1) (get_or done k d) d cut ends run in
+          let other = found.1 in let low = other.here.low in let high = other.here.high in
+          let differ : k ≢ found.0 = λ same. (let is : (get_or done k d).y0 ≡ (get_or done found.0 d).y0 = ap (λ i. (get_or done i d).y0) same in omega (arith, ints)) in
+          let apart = two_apart done k found.0 d cut.parted.apart.pairs differ at other.below in
+          by_lt_z (get_or done k d).y0 (get_or done found.0 d).y1
+          (λ less. not_beside (get_or done k d) (get_or done found.0 d) (get_or done k d).x0 (get_or done k d).y0 apart.gap solid (omega (arith, ints)) tall
+          (record { left = other.here.left; right = other.here.right; low = omega (arith, ints); high = less }) (omega (arith, ints)) (omega (arith, ints)))
+          (λ most. apart.above (omega (arith, ints)) (sym other.left) (sym other.right));
+      after = λ run.
+          let found = same_columns whole done reaching border (get_or done k d).y1 (get_or done k d) d cut ends run in
+          let other = found.1 in let low = other.here.low in let high = other.here.high in
+          let differ : k ≢ found.0 = λ same. (let is : (get_or done k d).y1 ≡ (get_or done found.0 d).y1 = ap (λ i. (get_or done i d).y1) same in omega (arith, ints)) in
+          let apart = two_apart done k found.0 d cut.parted.apart.pairs differ at other.below in
+          by_lt_z (get_or done found.0 d).y0 (get_or done k d).y1
+          (λ less. not_beside (get_or done k d) (get_or done found.0 d) (get_or done k d).x0 ((get_or done k d).y1 -ℤ pos 1) apart.gap solid (omega (arith, ints)) (omega (arith, ints))
+          (record { left = other.here.left; right = other.here.right; low = omega (arith, ints); high = omega (arith, ints) }) (omega (arith, ints)) (omega (arith, ints)))
+          (λ most. apart.below (omega (arith, ints)) (sym other.left) (sym other.right));
+    }
+
+done_sides : (done : List Rect) → IsApartList done → HaveOwnSides done
+done_sides done apart i j d p before below first second =
+    let a = first.0 in let b = first.1 in let c = first.2 in let e = second.0 in let f = second.1 in let g = second.2 in
+    let one = apart.solid i d (omega arith) in let two = apart.solid j d below in
+    let tall = one.high in let high = two.high in let wide = one.wide in let broad = two.wide in
+    elim ((apart.pairs i j d before below).gap (omega (arith, ints)) (omega (arith, ints))) [ inl left ↦ omega (arith, ints) | inr right ↦ omega (arith, ints) ]
+
+pub more_by_strips : (most : ℕ) (whole : PixelSet) (done reaching : List Rect) (border : ℤ) → most < length done → AreParted done reaching border
+    → ((x y : ℤ) → (cover done x y || cover reaching x y) ≡ (int_lt x border && whole x y)) → HasMoreCornersThan most whole
+more_by_strips most whole done reaching border above parted pixels =
+    let cut : IsCutAt whole done reaching border = record {
+      parted = parted;
+      pixels = λ x y left. left_of_border border x (cover done x y || cover reaching x y) (whole x y) (pixels x y) left;
+    } in
+    more_by_sides most whole whole done above
+    (λ k d below. ((parted.apart.solid k d below).wide, done_stack whole done reaching border k d cut below))
+    (done_sides done parted.apart) (λ k d x below. refl)

@@ -11,7 +11,7 @@ use Rattle.opc_base.specs.declared.outline.Outline.TheVariants.{Polygon, Path}
 use Rattle.rect_union.specs.declared.quadrants.Quadrant.{Quadrant}
 use Rattle.rect_union.specs.Sums.{any_set}
 use Rattle.opc_base.specs.Sums.{sum_each}
-use Rattle.rect_union.specs.Outlines.{AddsCount, path_count}
+use Rattle.rect_union.specs.Outlines.{AddsCount, AddsPath, path_count}
 use Rattle.opc_base.specs.Plane.{cover, rect_cover}
 use Rattle.rect_union.specs.Quadrants.{column_part, is_wound, owner_part, winding}
 use Rattle.rect_union.specs.Target.{AreQuadrantsOf, count_of, outline_count}
@@ -142,3 +142,15 @@ quadrants_sorted outlines from to same are = record {
   owners = λ n most. All-permutation (λ (q : Quadrant). q.column.owner < n) from to same (are.owners n most);
   small = let kept = sum_by-IsPermutation (λ (q : Quadrant). unsigned_abs q.column.sign) from to same in let count = length_permutation from to same in let old = are.small in omega arith;
 }
+
+-- ---- the quadrants of one path
+
+pub path_sorted : (rects : List Rect) (from to : List Quadrant) → AddsPath [] from 0 rects → IsPermutation from to → AreQuadrantsOf (Path rects ∷ []) to
+path_sorted rects from to adds same =
+    quadrants_sorted (Path rects ∷ []) from to same (quadrants_step (Path rects ∷ []) [] from 0 (Path rects) (omega arith) quadrants_start adds)
+
+or_nothing : (b : Bool) → (b || false) ≡ b
+or_nothing b = grind arith
+
+pub path_wound : (rects : List Rect) (quadrants : List Quadrant) (x y : ℤ) → AreQuadrantsOf (Path rects ∷ []) quadrants → is_wound 1 quadrants x y ≡ cover rects x y
+path_wound rects quadrants x y are = is_wound-target (Path rects ∷ []) quadrants x y are ∙ or_nothing (cover rects x y)

@@ -9,20 +9,15 @@ use Rattle.opc_base.specs.declared.plane.Rect.{Rect}
 use Rattle.opc_base.specs.declared.outline.Outline.{Outline}
 use Rattle.opc_base.specs.declared.outline.Outline.TheVariants.{Polygon, Path}
 use Rattle.opc_base.specs.Plane.{IsRectWithin, cover, rect_cover}
-use Rattle.opc_base.specs.Canonical.{AreCanonical}
+use Rattle.opc_base.specs.Canonical.{AreCanonical, IsSolid}
 use Rattle.opc_base.specs.Cover.{IsPlaced, IsPolygon, crossings, crossings_from, last_from, outline_cover, step}
 use Rattle.opc_base.specs.Target.{target}
 use Rattle.opc_base.specs.Corners.{quadrant_sum}
 use Rattle.opc_base.specs.Sums.{sum_each}
 use Rattle.rect_union.specs.CornerSets.{AreCornersOfSet, IsCornerWithin, corner_set}
+use Rattle.rect_union.specs.Strips.{IsInLimit}
 use Rattle.rect_union.proofs.LowerSides.{known}
 use Rattle.rect_union.proofs.SumLaws.{sum_each-same}
-
-pub record IsInLimit (limit : ℕ) (x y : ℤ) : Type 0 where
-  pub left : neg_ℤ (pos limit) ≤ℤ x
-  pub right : x <ℤ pos limit
-  pub low : neg_ℤ (pos limit) ≤ℤ y
-  pub high : y <ℤ pos limit
 
 -- ---- polygons
 
@@ -114,9 +109,9 @@ inside : (r : Rect) (x y : ℤ) → r.x0 ≤ℤ x → x <ℤ r.x1 → r.y0 ≤�
 inside r x y left right low high = grind (arith, ints)
 
 -- rectangles lie within the limit of the pixels that they cover
-pub rects_in_limit : (limit : ℕ) (rects : List Rect) → AreCanonical rects → ((x y : ℤ) → cover rects x y ≡ true → IsInLimit limit x y) → All (IsRectWithin limit) rects
-rects_in_limit limit rects canonical inside_limit k d below =
-    let solid = canonical.solid k d below in let wide = solid.wide in let tall = solid.high in
+pub rects_in_limit : (limit : ℕ) (rects : List Rect) → All IsSolid rects → ((x y : ℤ) → cover rects x y ≡ true → IsInLimit limit x y) → All (IsRectWithin limit) rects
+rects_in_limit limit rects all_solid inside_limit k d below =
+    let solid = all_solid k d below in let wide = solid.wide in let tall = solid.high in
     let covered : (x y : ℤ) → rect_cover (get_or rects k d) x y ≡ true → IsInLimit limit x y = λ x y is.
     inside_limit x y (list_any_at (λ r. rect_cover r x y) rects k d below is) in
     let first : IsInLimit limit (get_or rects k d).x0 (get_or rects k d).y0 = covered (get_or rects k d).x0 (get_or rects k d).y0
@@ -130,7 +125,7 @@ rects_in_limit limit rects canonical inside_limit k d below =
 pub rects_are_within : (outlines : List Outline) (rects : List Rect) → All IsPlaced outlines → AreCanonical rects
     → ((x y : ℤ) → cover rects x y ≡ target outlines x y) → All (IsRectWithin 1048000) rects
 rects_are_within outlines rects placed canonical pixels =
-    rects_in_limit 1048000 rects canonical (λ x y is. target_within outlines x y placed (sym (pixels x y) ∙ is))
+    rects_in_limit 1048000 rects canonical.solid (λ x y is. target_within outlines x y placed (sym (pixels x y) ∙ is))
 
 -- ---- corners
 
@@ -156,7 +151,7 @@ sum_of_none f (c ∷ corners) none =
 not_one : (z : ℤ) → z ≡ pos 0 → int_eq z (pos 1) ≡ true → ⊥
 not_one z none is = (let zero = ap (λ t. int_eq t (pos 1)) none in let never : false ≡ true = sym zero ∙ is in cc)
 
-corners_cover_within : (limit : ℕ) (corners : List Corner) (x y : ℤ) → limit ≤ 1048576 → All (IsCornerWithin limit) corners → AreCornersOfSet corners
+pub corners_cover_within : (limit : ℕ) (corners : List Corner) (x y : ℤ) → limit ≤ 1048576 → All (IsCornerWithin limit) corners → AreCornersOfSet corners
     → corner_set corners x y ≡ true → IsInLimit limit x y
 corners_cover_within limit corners x y most near set is = record {
   left = by_lt_z x (neg_ℤ (pos limit))
@@ -184,7 +179,7 @@ corners_cover_within limit corners x y most near set is = record {
 pub corner_rects_within : (limit : ℕ) (corners : List Corner) (rects : List Rect) → AreCornersOfSet corners → AreCanonical rects
     → ((x y : ℤ) → cover rects x y ≡ corner_set corners x y) → limit ≤ 1048576 → All (IsCornerWithin limit) corners → All (IsRectWithin limit) rects
 corner_rects_within limit corners rects set canonical pixels most near =
-    rects_in_limit limit rects canonical (λ x y is. corners_cover_within limit corners x y most near set (sym (pixels x y) ∙ is))
+    rects_in_limit limit rects canonical.solid (λ x y is. corners_cover_within limit corners x y most near set (sym (pixels x y) ∙ is))
 
 -- ---- a greater limit
 

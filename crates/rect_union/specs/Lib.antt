@@ -15,3 +15,4 @@ pub mod Merging
 pub mod Touches
 pub mod Joins
 pub mod Strips
+pub mod Cuts

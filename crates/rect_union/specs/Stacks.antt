@@ -44,7 +44,7 @@ abbrev pub IsLeftOfRuns : List Run → ℕ → ℤ → Type 0
 IsLeftOfRuns runs n x = (m : ℕ) (d : Run) → n ≤ m → m < length runs → x <ℤ (get_or runs m d).first
 
 -- while a slab is added: a rectangle is below it, or in it and left of the runs from the n-th on
-pub record IsPlaced (bottom top : ℤ) (runs : List Run) (n : ℕ) (r : Rect) : Type 0 where
+pub record IsDoneInSlab (bottom top : ℤ) (runs : List Run) (n : ℕ) (r : Rect) : Type 0 where
   pub low : r.y0 ≤ℤ bottom
   pub done : (r.y1 ≤ℤ bottom) ⊎ ((r.y1 ≡ top) × IsLeftOfRuns runs n r.x1)
 
@@ -53,7 +53,7 @@ pub record IsPlaced (bottom top : ℤ) (runs : List Run) (n : ℕ) (r : Rect) : 
 pub record IsAddingSlab (bottom top : ℤ) (runs : List Run) (growing : List Growing) (rects : List Rect)
     (grown : List Growing) (next n : ℕ) : Type 0 where
   pub canonical : AreCanonical rects
-  pub placed : All (IsPlaced bottom top runs n) rects
+  pub placed : All (IsDoneInSlab bottom top runs n) rects
   pub sorted : AllPairs (λ g h. g.run.first <ℤ h.run.first) growing
   pub columns : All (HasColumns rects) growing
   pub complete : HasAllAt rects growing bottom

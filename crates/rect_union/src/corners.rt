@@ -7,8 +7,8 @@ ghost use Rattle.rect_union.specs.CornerSets.{AreCornersOfSet, IsCornerWithin, c
 ghost use Rattle.rect_union.specs.Corners.{HaveSmallSigns, corner_quadrant};
 
 use crate::columns::Column;
+use crate::cut::rects_of_quadrants;
 use crate::quadrants::{Quadrant, sort_rows};
-use crate::sweep::region_of_quadrants;
 use opc_base::{Corner, NoMemory, Rect, Region};
 use std::alloc::{AllocError, Global};
 
@@ -31,7 +31,7 @@ fn corner_rects(alloc: Global, corners: &[Corner]) -> Result<Vec<Rect>, AllocErr
 {
     let mut quadrants = corner_quadrants(alloc, corners)?;
     sort_rows(&mut quadrants);
-    let rects = region_of_quadrants(alloc, 1, &quadrants)?;
+    let rects = rects_of_quadrants(alloc, 1, &quadrants)?;
     Ok(rects)
 }
 

@@ -3,16 +3,16 @@
 //! A sweep costs its rows times the columns that are active in a row. So outlines are first joined by fours, and what
 //! these cover again by fours, until few are left: what many that overlap cover has few sides.
 
-ghost use Rattle.std.specs.Prelude.{◌≡◌, ℤ, All, IfOk};
+ghost use Rattle.std.specs.Prelude.{◌≡◌, ℤ, All, IfNone, IfOk, IfSome};
 ghost use Rattle.opc_base.specs.Canonical.{AreCanonical};
 ghost use Rattle.opc_base.specs.Cover.{IsPlaced};
 ghost use Rattle.opc_base.specs.Plane.{IsRectWithin, cover};
-ghost use Rattle.opc_base.specs.Target.{target};
+ghost use Rattle.opc_base.specs.Target.{HasMoreCornersThan, target};
 ghost use Rattle.rect_union.specs.Joins.{IsJoinOf, JoinsTo};
 
 use crate::spread::{are_many_in_rows, outline_size, rects_of, strip_borders};
-use crate::strips::striped_rects;
-use crate::swept::swept_rects;
+use crate::strips::striped_up_to;
+use crate::swept::swept_up_to;
 use opc_base::{Outline, Rect, Rects};
 use std::alloc::{AllocError, Global};
 
@@ -21,38 +21,55 @@ const GROUP: usize = 4;
 /// Outlines with no more points or rectangles than this are swept at once.
 const SMALL: usize = 256;
 
-/// The canonical rectangles of the pixels that some outline covers.
-pub fn joined_rects(alloc: Global, outlines: &[Outline]) -> Result<Vec<Rect>, AllocError>
+/// A group that has more rectangles than this is not joined, and the others then stay as they are too.
+const MOST_IN_GROUP: usize = 262_144;
+
+/// The canonical rectangles of the pixels that some outline covers, or none where these have more corners than `most`.
+pub fn joined_up_to(
+    alloc: Global,
+    outlines: &[Outline],
+    most: usize,
+) -> Result<Option<Vec<Rect>>, AllocError>
     requires placed { All IsPlaced outlines.now }
-    ensures canonical { IfOk result (λ rects. AreCanonical rects.items) }
-    ensures within { IfOk result (λ rects. All (IsRectWithin 1048000) rects.items) }
-    ensures pixels { IfOk result (λ rects. (x y : ℤ) → cover rects.items x y ≡ target outlines.now x y) }
+    ensures canonical { IfOk result (λ found. IfSome found (λ rects. AreCanonical rects.items)) }
+    ensures within { IfOk result (λ found. IfSome found (λ rects. All (IsRectWithin 1048000) rects.items)) }
+    ensures pixels { IfOk result (λ found. IfSome found (λ rects. (x y : ℤ) → cover rects.items x y ≡ target outlines.now x y)) }
+    ensures stopped { IfOk result (λ found. IfNone found (HasMoreCornersThan most (target outlines.now))) }
 {
-    let mut joined = join_groups(alloc, outlines)?;
+    let first = join_groups(alloc, outlines)?;
+    let Some(groups) = first else {
+        return target_up_to(alloc, outlines, most);
+    };
+    let mut joined = groups;
     for _ in 0..10 {
         joined = join_again(alloc, joined)?;
     }
-    let rects = target_rects(alloc, &joined)?;
-    Ok(rects)
+    let found = target_up_to(alloc, &joined, most)?;
+    Ok(found)
 }
 
 /// The same without joining groups: by one sweep, or in strips where many rectangles lie in a row.
-pub fn target_rects(alloc: Global, outlines: &[Outline]) -> Result<Vec<Rect>, AllocError>
+fn target_up_to(
+    alloc: Global,
+    outlines: &[Outline],
+    most: usize,
+) -> Result<Option<Vec<Rect>>, AllocError>
     requires placed { All IsPlaced outlines.now }
-    ensures canonical { IfOk result (λ rects. AreCanonical rects.items) }
-    ensures within { IfOk result (λ rects. All (IsRectWithin 1048000) rects.items) }
-    ensures pixels { IfOk result (λ rects. (x y : ℤ) → cover rects.items x y ≡ target outlines.now x y) }
+    ensures canonical { IfOk result (λ found. IfSome found (λ rects. AreCanonical rects.items)) }
+    ensures within { IfOk result (λ found. IfSome found (λ rects. All (IsRectWithin 1048000) rects.items)) }
+    ensures pixels { IfOk result (λ found. IfSome found (λ rects. (x y : ℤ) → cover rects.items x y ≡ target outlines.now x y)) }
+    ensures stopped { IfOk result (λ found. IfNone found (HasMoreCornersThan most (target outlines.now))) }
 {
     if outline_size(outlines) <= SMALL {
-        return swept_rects(alloc, outlines);
+        return swept_up_to(alloc, outlines, most);
     }
     let rects = rects_of(alloc, outlines)?;
     if !are_many_in_rows(alloc, &rects)? {
-        return swept_rects(alloc, outlines);
+        return swept_up_to(alloc, outlines, most);
     }
     let borders = strip_borders(alloc, &rects)?;
-    let striped = striped_rects(alloc, &rects, &borders)?;
-    Ok(striped)
+    let found = striped_up_to(alloc, &rects, &borders, most)?;
+    Ok(found)
 }
 
 /// Outlines that cover the same, fewer where there are many.
@@ -63,31 +80,39 @@ fn join_again(alloc: Global, outlines: Vec<Outline>) -> Result<Vec<Outline>, All
     if outlines.len() <= GROUP {
         return Ok(outlines);
     }
-    let joined = join_groups(alloc, &outlines)?;
-    Ok(joined)
+    match join_groups(alloc, &outlines)? {
+        Some(joined) => Ok(joined),
+        None => Ok(outlines),
+    }
 }
 
-/// One outline for each group of outlines, which covers what they do.
-fn join_groups(alloc: Global, outlines: &[Outline]) -> Result<Vec<Outline>, AllocError>
+/// One outline for each group of outlines, which covers what they do, or none where some group has too many rectangles.
+fn join_groups(alloc: Global, outlines: &[Outline]) -> Result<Option<Vec<Outline>>, AllocError>
     requires placed { All IsPlaced outlines.now }
-    ensures joined { IfOk result (λ joined. JoinsTo outlines.now joined.items) }
+    ensures joined { IfOk result (λ found. IfSome found (λ joined. JoinsTo outlines.now joined.items)) }
 {
     let mut joined = Vec::new(alloc);
     let mut rest = outlines;
     while rest.len() > 0 {
         let count = rest.len().min(GROUP);
         let (group, later) = rest.split_at(count);
-        let outline = join_group(alloc, group)?;
+        let found = join_group(alloc, group)?;
+        let Some(outline) = found else {
+            return Ok(None);
+        };
         joined.push(outline)?;
         rest = later;
     }
-    Ok(joined)
+    Ok(Some(joined))
 }
 
-fn join_group(alloc: Global, outlines: &[Outline]) -> Result<Outline, AllocError>
+fn join_group(alloc: Global, outlines: &[Outline]) -> Result<Option<Outline>, AllocError>
     requires placed { All IsPlaced outlines.now }
-    ensures joined { IfOk result (IsJoinOf outlines.now) }
+    ensures joined { IfOk result (λ found. IfSome found (IsJoinOf outlines.now)) }
 {
-    let rects = target_rects(alloc, outlines)?;
-    Ok(Outline::Path(Rects::from_vec(rects)))
+    let found = target_up_to(alloc, outlines, MOST_IN_GROUP)?;
+    match found {
+        Some(rects) => Ok(Some(Outline::Path(Rects::from_vec(rects)))),
+        None => Ok(None),
+    }
 }

@@ -6,10 +6,15 @@
 //! are joined by fours in turn, until few outlines are left for one last sweep. Where more than 256 rectangles are swept
 //! and many lie in a row, the sweep goes in vertical strips from the left: what ends at the right border of a strip is
 //! swept again with the next one.
+//!
+//! A region of signed corners is cut into strips by moving the corners that lie outside of a strip to its nearer side. The
+//! last sweep of a union stops as soon as more rectangles stand than a target may have corners, and a group of outlines that
+//! cover too many rectangles is not joined.
 #![tactic(auto)]
 
 mod columns;
 mod corners;
+mod cut;
 mod join;
 mod merge;
 mod outlines;
@@ -27,6 +32,9 @@ mod windings;
 
 pub use corners::region_of;
 pub use rect_corners::{first_touch, push_corners};
+pub use run::Run;
+pub use runs::RunBuilder;
+pub use stack::{Growing, add_slab};
 pub use target::{UnionFault, union};
 
 #[cfg(test)]

@@ -3,21 +3,21 @@
 //! A sweep costs its rows times the columns that are active in a row, and a strip has few of both: a row begins where a
 //! rectangle of the strip begins or ends. What ends at a strip's right border is swept again with the next strip.
 
-ghost use Rattle.std.specs.Prelude.{◌≡◌, ◌≤ℤ◌, ℤ, List, ◌||◌, ◌&&◌, int_le, int_lt, IfOk, OnOk};
-ghost use Rattle.opc_base.specs.declared.plane.Rect.{Rect};
+ghost use Rattle.std.specs.Prelude.{◌≡◌, ◌≤ℤ◌, ◌<ℤ◌, ℤ, true, ◌||◌, ◌&&◌, ◌+◌, ◌<◌, ◌^◌, int_le, int_lt, IfNone, IfOk, IfSome, OnOk};
 ghost use Rattle.std.specs.Int.{int_max, int_min};
 ghost use Rattle.opc_base.specs.Canonical.{AreCanonical, IsSolid};
-ghost use Rattle.opc_base.specs.Cover.{AreRectangles};
-ghost use Rattle.opc_base.specs.Plane.{IsRectWithin, cover, rect_cover};
-ghost use Rattle.rect_union.specs.Strips.{AreStrips, IsApartList};
+ghost use Rattle.opc_base.specs.Plane.{IsRectWithin, PixelSet, cover, rect_cover};
+ghost use Rattle.opc_base.specs.Target.{HasMoreCornersThan};
+ghost use Rattle.rect_union.specs.Strips.{AreInPlane, AreParted, AreStrips, IsApartList, IsInLimit, Widens};
 
-use crate::swept::swept_rects;
-use opc_base::{Outline, Rect, Rects};
+use crate::outlines::add_path;
+use crate::quadrants::sort_rows;
+use crate::sweep::region_of_quadrants;
+use opc_base::Rect;
 use std::alloc::{AllocError, Global};
-use std::slice;
 
-/// Right of all rectangles, which are within 1,048,000 of 0.
-const RIGHT_OF_ALL: i32 = 1_048_576;
+/// Right of all rectangles, which are within 1,048,576 of 0.
+const RIGHT_OF_ALL: i32 = 1_048_577;
 
 /// What the rectangles cover left of a border.
 #[derive(Debug, Drop)]
@@ -35,21 +35,43 @@ pub fn striped_rects(
     rects: &[Rect],
     borders: &[i32],
 ) -> Result<Vec<Rect>, AllocError>
-    requires placed { AreRectangles rects.now }
+    requires placed { AreInPlane rects.now }
     ensures canonical { IfOk result (λ striped. AreCanonical striped.items) }
     ensures pixels { IfOk result (λ striped. (x y : ℤ) → cover striped.items x y ≡ cover rects.now x y) }
+{
+    match striped_up_to(alloc, rects, borders, usize::MAX)? {
+        Some(striped) => Ok(striped),
+        None => Ok(Vec::new(alloc)),
+    }
+}
+
+/// The same, or none where these have more corners than `most`: the sweep stops once more rectangles are done.
+pub fn striped_up_to(
+    alloc: Global,
+    rects: &[Rect],
+    borders: &[i32],
+    most: usize,
+) -> Result<Option<Vec<Rect>>, AllocError>
+    requires placed { AreInPlane rects.now }
+    ensures canonical { IfOk result (λ found. IfSome found (λ striped. AreCanonical striped.items)) }
+    ensures pixels { IfOk result (λ found. IfSome found (λ striped. (x y : ℤ) → cover striped.items x y ≡ cover rects.now x y)) }
+    ensures stopped { IfOk result (λ found. IfNone found (HasMoreCornersThan most (cover rects.now))) }
+    ensures limit { IfOk result (λ found. IfNone found (most + 1 < 2 ^ 64)) }
 {
     let mut strips = Strips::new(alloc);
     for border in borders {
         strips.widen(alloc, rects, *border)?;
+        if strips.done.len() > most {
+            return Ok(None);
+        }
     }
     strips.widen(alloc, rects, RIGHT_OF_ALL)?;
     sort_starts(&mut strips.done);
-    Ok(strips.done)
+    Ok(Some(strips.done))
 }
 
 /// Puts rectangles that are apart into canonical order.
-fn sort_starts(rects: &mut Vec<Rect>)
+pub fn sort_starts(rects: &mut Vec<Rect>)
     requires apart { IsApartList rects.old.items }
     ensures canonical { AreCanonical rects.new.items }
     ensures pixels { (x y : ℤ) → cover rects.new.items x y ≡ cover rects.old.items x y }
@@ -58,8 +80,8 @@ fn sort_starts(rects: &mut Vec<Rect>)
 }
 
 impl Strips {
-    fn new(alloc: Global) -> Self
-        ensures valid { (rects : List Rect) → AreRectangles rects → AreStrips rects result }
+    pub fn new(alloc: Global) -> Self
+        ensures valid { (whole : PixelSet) → ((x y : ℤ) → whole x y ≡ true → IsInLimit 1048576 x y) → AreStrips whole result }
     {
         Strips {
             done: Vec::new(alloc),
@@ -69,11 +91,12 @@ impl Strips {
     }
 
     /// Adds what the rectangles cover from the border to this one, if it is further right.
-    fn widen(&mut self, alloc: Global, rects: &[Rect], border: i32) -> Result<(), AllocError>
-        requires placed { AreRectangles rects.now }
-        requires valid { AreStrips rects.now self.old }
-        ensures valid { OnOk result (AreStrips rects.now self.new) }
+    pub fn widen(&mut self, alloc: Global, rects: &[Rect], border: i32) -> Result<(), AllocError>
+        requires placed { AreInPlane rects.now }
+        requires parted { AreParted self.old.done.items self.old.reaching.items self.old.border }
+        ensures widened { OnOk result (Widens rects.now self.old self.new) }
         ensures reached { OnOk result (border ≤ℤ self.new.border) }
+        ensures ends { OnOk result (self.old.border <ℤ border → self.new.border ≡ border) }
     {
         if border <= self.border {
             return Ok(());
@@ -101,9 +124,9 @@ fn strip_of(
     left: i32,
     right: i32,
 ) -> Result<Vec<Rect>, AllocError>
-    requires reaching { AreRectangles reaching.now }
-    requires placed { AreRectangles rects.now }
-    ensures placed { IfOk result (λ seen. AreRectangles seen.items) }
+    requires reaching { AreInPlane reaching.now }
+    requires placed { AreInPlane rects.now }
+    ensures placed { IfOk result (λ seen. AreInPlane seen.items) }
     ensures pixels { IfOk result (λ seen. (x y : ℤ) → cover seen.items x y ≡ (cover reaching.now x y || (int_le left x && int_lt x right && cover rects.now x y))) }
 {
     let mut seen = Vec::from_slice(alloc, reaching)?;
@@ -115,10 +138,10 @@ fn strip_of(
 
 /// Adds what the rectangle covers from `left` up to but not including `right`.
 fn push_part(seen: &mut Vec<Rect>, rect: &Rect, left: i32, right: i32) -> Result<(), AllocError>
-    requires seen { AreRectangles seen.old.items }
+    requires seen { AreInPlane seen.old.items }
     requires solid { IsSolid rect.now }
-    requires within { IsRectWithin 1048000 rect.now }
-    ensures placed { OnOk result (AreRectangles seen.new.items) }
+    requires within { IsRectWithin 1048576 rect.now }
+    ensures placed { OnOk result (AreInPlane seen.new.items) }
     ensures pixels { OnOk result ((x y : ℤ) → cover seen.new.items x y ≡ (cover seen.old.items x y || (int_le left x && int_lt x right && rect_cover rect.now x y))) }
 {
     let part = part_of(rect, left, right);
@@ -144,12 +167,14 @@ fn part_of(rect: &Rect, left: i32, right: i32) -> Rect
 
 /// The canonical rectangles of the pixels that these rectangles cover, by one sweep.
 fn swept_path(alloc: Global, rects: Vec<Rect>) -> Result<Vec<Rect>, AllocError>
-    requires placed { AreRectangles rects.items }
+    requires placed { AreInPlane rects.items }
     ensures canonical { IfOk result (λ swept. AreCanonical swept.items) }
-    ensures placed { IfOk result (λ swept. AreRectangles swept.items) }
+    ensures placed { IfOk result (λ swept. AreInPlane swept.items) }
     ensures pixels { IfOk result (λ swept. (x y : ℤ) → cover swept.items x y ≡ cover rects.items x y) }
 {
-    let path = Outline::Path(Rects::from_vec(rects));
-    let swept = swept_rects(alloc, slice::from_ref(&path))?;
+    let mut quadrants = Vec::new(alloc);
+    add_path(&mut quadrants, 0, &rects)?;
+    sort_rows(&mut quadrants);
+    let swept = region_of_quadrants(alloc, 1, &quadrants)?;
     Ok(swept)
 }

@@ -1,11 +1,12 @@
 //! A sweep over the rows of signed quadrants, from the bottom.
 
-ghost use Rattle.std.specs.Prelude.{◌≡◌, ◌<◌, ◌+◌, ◌^◌, ◌<ℤ◌, ◌+ℤ◌, ℕ, ℤ, pos, length, get_or, vec_len, [], IfOk, OnOk};
+ghost use Rattle.std.specs.Prelude.{◌≡◌, ◌<◌, ◌+◌, ◌^◌, ◌<ℤ◌, ◌+ℤ◌, ℕ, ℤ, pos, length, get_or, vec_len, [], IfOk, IfNone, IfSome, OnOk};
 ghost use Rattle.rect_union.specs.declared.quadrants.Quadrant.{Quadrant};
 ghost use Rattle.opc_base.specs.Canonical.{AreCanonical};
 ghost use Rattle.rect_union.specs.Columns.{AreInOrder, HaveOwnersBelow, owner_total, weight_of};
 ghost use Rattle.opc_base.specs.Plane.{cover};
 ghost use Rattle.rect_union.specs.Quadrants.{AreInRows, HaveQuadrantOwnersBelow, column_total, is_wound, quadrant_weight, row_total};
+ghost use Rattle.opc_base.specs.Target.{HasMoreCornersThan};
 ghost use Rattle.rect_union.specs.Sweeps.{IsSweepAt, Raises};
 
 use crate::columns::{Column, runs_of};
@@ -42,18 +43,45 @@ pub fn region_of_quadrants(
     ensures canonical { IfOk result (λ rects. AreCanonical rects.items) }
     ensures pixels { IfOk result (λ rects. (x y : ℤ) → cover rects.items x y ≡ is_wound owners quadrants.now x y) }
 {
+    match region_up_to(alloc, owners, quadrants, usize::MAX)? {
+        Some(rects) => Ok(rects),
+        None => Ok(Vec::new(alloc)),
+    }
+}
+
+/// The same, or none where the set has more corners than `most`: the sweep stops once more rectangles stand, each of which
+/// has a corner of its own on its lower side.
+pub fn region_up_to(
+    alloc: Global,
+    owners: usize,
+    quadrants: &[Quadrant],
+    most: usize,
+) -> Result<Option<Vec<Rect>>, AllocError>
+    requires order { AreInRows quadrants.now }
+    requires owners { HaveQuadrantOwnersBelow owners quadrants.now }
+    requires small { quadrant_weight quadrants.now < 2 ^ 126 }
+    requires closed_right { (owner : ℕ) (y : ℤ) → row_total quadrants.now owner y ≡ pos 0 }
+    requires closed_above { (owner : ℕ) (x : ℤ) → column_total quadrants.now owner x ≡ pos 0 }
+    ensures canonical { IfOk result (λ found. IfSome found (λ rects. AreCanonical rects.items)) }
+    ensures pixels { IfOk result (λ found. IfSome found (λ rects. (x y : ℤ) → cover rects.items x y ≡ is_wound owners quadrants.now x y)) }
+    ensures stopped { IfOk result (λ found. IfNone found (HasMoreCornersThan most (is_wound owners quadrants.now))) }
+    ensures limit { IfOk result (λ found. IfNone found (most + 1 < 2 ^ 64)) }
+{
     let mut state = Sweep::new(alloc, owners)?;
     let mut row = Vec::new(alloc);
     let mut bottom = first_row(quadrants);
     for quadrant in quadrants {
         if quadrant.y != bottom {
             state.raise(alloc, &row, bottom, quadrant.y)?;
+            if state.rects.len() > most {
+                return Ok(None);
+            }
             row.clear();
             bottom = quadrant.y;
         }
         row.push(quadrant.column)?;
     }
-    Ok(state.rects)
+    Ok(Some(state.rects))
 }
 
 fn first_row(quadrants: &[Quadrant]) -> i32

@@ -5,10 +5,13 @@ ghost use Rattle.opc_base.specs.Canonical.{IsCanonical};
 ghost use Rattle.opc_base.specs.Plane.{IsRectWithin, cover};
 ghost use Rattle.opc_base.specs.Target.{HasMoreCornersThan, target};
 
-use crate::join::joined_rects;
+use crate::join::joined_up_to;
 use crate::rect_corners::count_corners;
 use opc_base::{NoMemory, Placed, Region};
 use std::alloc::{AllocError, Global};
+
+/// Each canonical rectangle has a corner of its own on its lower side.
+const MOST_CORNERS: usize = 65_536;
 
 /// Why a target is not given.
 #[derive(Clone, Copy, Debug, PartialEq, Eq)]
@@ -49,9 +52,15 @@ pub fn union(alloc: Global, placed: &Placed) -> Result<Region, UnionFault>
     ensures corners { IfOk result (λ _. ¬ HasMoreCornersThan 65536 (target placed.now)) }
     ensures too_many { IfErr result (λ fault. fault ≡ UnionFault.TooManyCorners → HasMoreCornersThan 65536 (target placed.now)) }
 {
-    let rects = joined_rects(alloc, placed.outlines())?;
+    let found = joined_up_to(alloc, placed.outlines(), MOST_CORNERS)?;
+    let Some(rects) = found else {
+        return Err(UnionFault::TooManyCorners);
+    };
+    if rects.len() > MOST_CORNERS {
+        return Err(UnionFault::TooManyCorners);
+    }
     let corners = count_corners(alloc, &rects)?;
-    if corners > 65536 {
+    if corners > MOST_CORNERS {
         return Err(UnionFault::TooManyCorners);
     }
     Ok(Region::from_rects(rects))

@@ -10,10 +10,16 @@ use crate::strips::striped_rects;
 use crate::swept::swept_rects;
 use opc_base::{NoMemory, Outline, Pix, Pixes, Placed, Rect};
 use std::alloc::Global;
+use std::process::Abort;
 use std::test::Fail;
 
-/// Adds the polygon with these points, if it is closed, along the grid and within the limit.
-fn add(alloc: Global, outlines: &mut Vec<Outline>, points: &[(i32, i32)]) -> Result<(), NoMemory>
+/// Adds the polygon with these points, which is closed, along the grid and within the limit.
+fn add(
+    rt: &impl Abort,
+    alloc: Global,
+    outlines: &mut Vec<Outline>,
+    points: &[(i32, i32)],
+) -> Result<(), NoMemory>
     requires { All IsPlaced outlines.old.items }
     ensures { OnOk result (All IsPlaced outlines.new.items) }
 {
@@ -21,9 +27,7 @@ fn add(alloc: Global, outlines: &mut Vec<Outline>, points: &[(i32, i32)]) -> Res
     for (x, y) in points {
         pixes.push(Pix { x: *x, y: *y })?;
     }
-    if !is_polygon(&pixes) {
-        return Ok(());
-    }
+    assert!(rt; is_polygon(&pixes), "{pixes:?}");
     outlines.push(Outline::Polygon(Pixes::from_vec(pixes)))?;
     Ok(())
 }
@@ -100,16 +104,19 @@ fn unites_overlaps_and_a_keyhole(rt: HostRuntime) -> Result<(), Fail> {
     let alloc = rt.alloc();
     let mut outlines = Vec::new(alloc);
     add(
+        &rt,
         alloc,
         &mut outlines,
         &[(0, 0), (10, 0), (10, 4), (0, 4), (0, 0)],
     )?;
     add(
+        &rt,
         alloc,
         &mut outlines,
         &[(5, 2), (12, 2), (12, 8), (5, 8), (5, 2)],
     )?;
     add(
+        &rt,
         alloc,
         &mut outlines,
         &[
@@ -148,16 +155,19 @@ fn adds_no_windings_across_shapes(rt: HostRuntime) -> Result<(), Fail> {
     let alloc = rt.alloc();
     let mut outlines = Vec::new(alloc);
     add(
+        &rt,
         alloc,
         &mut outlines,
         &[(0, 0), (4, 0), (4, 4), (0, 4), (0, 0)],
     )?;
     add(
+        &rt,
         alloc,
         &mut outlines,
         &[(0, 0), (0, 4), (4, 4), (4, 0), (0, 0)],
     )?;
     add(
+        &rt,
         alloc,
         &mut outlines,
         &[
@@ -184,11 +194,13 @@ fn finds_where_squares_touch(rt: HostRuntime) -> Result<(), Fail> {
     let alloc = rt.alloc();
     let mut outlines = Vec::new(alloc);
     add(
+        &rt,
         alloc,
         &mut outlines,
         &[(0, 0), (10, 0), (10, 10), (0, 10), (0, 0)],
     )?;
     add(
+        &rt,
         alloc,
         &mut outlines,
         &[(10, 10), (20, 10), (20, 20), (10, 20), (10, 10)],
@@ -208,21 +220,25 @@ fn sweeps_in_strips(rt: HostRuntime) -> Result<(), Fail> {
     let alloc = rt.alloc();
     let mut outlines = Vec::new(alloc);
     add(
+        &rt,
         alloc,
         &mut outlines,
         &[(0, 0), (3, 0), (3, 5), (0, 5), (0, 0)],
     )?;
     add(
+        &rt,
         alloc,
         &mut outlines,
         &[(-2, -1), (9, -1), (9, 0), (-2, 0), (-2, -1)],
     )?;
     add(
+        &rt,
         alloc,
         &mut outlines,
         &[(5, 0), (7, 0), (7, 3), (5, 3), (5, 0)],
     )?;
     add(
+        &rt,
         alloc,
         &mut outlines,
         &[(1, 7), (2, 7), (2, 9), (1, 9), (1, 7)],
@@ -248,7 +264,12 @@ struct Layout {
 }
 
 /// So many rectangles of the layout, each third one walked twice.
-fn outlines_of(alloc: Global, layout: &Layout, count: u16) -> Result<Vec<Outline>, NoMemory>
+fn outlines_of(
+    rt: &impl Abort,
+    alloc: Global,
+    layout: &Layout,
+    count: u16,
+) -> Result<Vec<Outline>, NoMemory>
     ensures { IfOk result (λ outlines. All IsPlaced outlines.items) }
 {
     let mut state = 1;
@@ -261,13 +282,14 @@ fn outlines_of(alloc: Global, layout: &Layout, count: u16) -> Result<Vec<Outline
             x1: x0 + 1 + roll(&mut state, layout.width),
             y1: 1 + roll(&mut state, layout.height),
         };
-        add_walk(alloc, &mut outlines, &drawn, index % 3 == 0)?;
+        add_walk(rt, alloc, &mut outlines, &drawn, index % 3 == 0)?;
     }
     Ok(outlines)
 }
 
 /// Adds the rectangle, walked once or twice.
 fn add_walk(
+    rt: &impl Abort,
     alloc: Global,
     outlines: &mut Vec<Outline>,
     rect: &Rect,
@@ -281,9 +303,9 @@ fn add_walk(
     let c = (rect.x1, rect.y1);
     let d = (rect.x0, rect.y1);
     if twice {
-        add(alloc, outlines, &[a, b, c, d, a, b, c, d, a])?;
+        add(rt, alloc, outlines, &[a, b, c, d, a, b, c, d, a])?;
     } else {
-        add(alloc, outlines, &[a, b, c, d, a])?;
+        add(rt, alloc, outlines, &[a, b, c, d, a])?;
     }
     Ok(())
 }
@@ -314,7 +336,7 @@ fn unites_as_one_sweep_does(rt: HostRuntime) -> Result<(), Fail> {
         sized(600, 400, 2000),
         sized(30_000, 300, 60),
     ] {
-        let outlines = outlines_of(alloc, layout, 300)?;
+        let outlines = outlines_of(&rt, alloc, layout, 300)?;
         let rects = rects_of(alloc, &outlines)?;
         assert!(rt; are_many_in_rows(alloc, &rects)?);
         let swept = swept_rects(alloc, &outlines)?;

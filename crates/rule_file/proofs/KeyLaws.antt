@@ -23,7 +23,7 @@ use Rattle.rule_file.specs.declared.key.Kind.{Kind}
 use Rattle.rule_file.specs.declared.key.Kind.TheVariants.{Whole, TopName, MaskName}
 use Rattle.rule_file.specs.declared.fault.RuleFault.{RuleFault}
 use Rattle.rule_file.specs.declared.fault.RuleFault.TheVariants.{NotToml}
-use Rattle.rule_file.specs.Keys.{keys, kind_of, is_top, is_mask_name, is_key, IsWhole, IsSmall, IsName, HoldsNumber, HoldsText}
+use Rattle.rule_file.specs.Keys.{keys, kind_of, is_top, is_mask_name, is_key, IsWholeKind, IsSmall, IsName, HoldsNumber, HoldsText}
 use Rattle.rule_file.specs.RuleText.{value_at, whole_at, text_at, whole_fault, text_fault, value_fault, key_fault, first_fault, has_unknown, table_fault, document_fault, rule_fault, HasRules, SaysRules}
 
 some_none : {A : Type 0} (x : A) → Some x ≡ None → ⊥
@@ -65,7 +65,7 @@ along : {A : Type 0} (P Q : A → Type 0) (o : Option A) → ((x : A) → P x �
 along P Q None f h = absurd h
 along P Q (Some x) f h = f x h
 
-number_passes : (key : Key) (kind : Kind) (o : Option Data) → value_fault key kind o ≡ None → IsWhole kind → IsSomeAnd (option_and_then as_integer o) (HoldsNumber kind)
+number_passes : (key : Key) (kind : Kind) (o : Option Data) → value_fault key kind o ≡ None → IsWholeKind kind → IsSomeAnd (option_and_then as_integer o) (HoldsNumber kind)
 number_passes key kind None h w = absurd (some_none _ h)
 number_passes key (Whole low high) (Some d) h w = within key low high (as_integer d) h
 number_passes key TopName (Some d) h w = absurd w
@@ -78,7 +78,7 @@ name_passes key TopName (Some d) h w = along (λ text. is_top text ≡ true) (Ho
 name_passes key MaskName (Some d) h w = along (λ text. is_mask_name text ≡ true) (HoldsText MaskName) (as_str d) mask_holds (tested key is_mask_name (as_str d) h)
 
 -- a key that passes holds a number, or a text, of its kind
-pub whole_passes : (table : Members) (key : Key) → key_fault table key ≡ None → IsWhole (kind_of key) → IsSomeAnd (whole_at table key) (HoldsNumber (kind_of key))
+pub whole_passes : (table : Members) (key : Key) → key_fault table key ≡ None → IsWholeKind (kind_of key) → IsSomeAnd (whole_at table key) (HoldsNumber (kind_of key))
 unfolding key_fault
 whole_passes table key h w = number_passes key (kind_of key) (value_at table key) h w
 
@@ -94,7 +94,7 @@ pub holds_of_Some : {A : Type 0} (P : A → Type 0) (o : Option A) (x : A) → S
 holds_of_Some P o x e h = subst (λ o. IsSomeAnd o P) (sym e) h
 
 -- what a small kind is
-pub small_is_whole : (kind : Kind) → IsSmall kind → IsWhole kind
+pub small_is_whole : (kind : Kind) → IsSmall kind → IsWholeKind kind
 small_is_whole (Whole low high) s = tt
 small_is_whole TopName s = absurd s
 small_is_whole MaskName s = absurd s

@@ -58,10 +58,10 @@ abbrev pub is_key : List ℕ → Bool
 is_key name = list_any (λ key. bytes_eq (name_of key) name) keys
 
 -- the key holds a whole number, and one that fits in 16 bits
-abbrev pub IsWhole : Kind → Type 0
-IsWhole (Whole low high) = Unit {0}
-IsWhole TopName = ⊥
-IsWhole MaskName = ⊥
+abbrev pub IsWholeKind : Kind → Type 0
+IsWholeKind (Whole low high) = Unit {0}
+IsWholeKind TopName = ⊥
+IsWholeKind MaskName = ⊥
 
 abbrev pub IsSmall : Kind → Type 0
 IsSmall (Whole low high) = (pos 0 ≤ℤ low) × (high ≤ℤ pos 65535)

@@ -186,14 +186,13 @@ fn rules_hold_the_values(rt: HostRuntime) -> Result<(), Fail> {
 }
 
 fn check_moves(rt: &impl Abort, alloc: Global, text: &str, wanted: Option<u32>) {
-    if text.len() <= 99 {
-        let line = match read_moves(alloc, text.as_bytes()) {
-            Ok(_) => None,
-            Err(MoveFault::BadLine { line }) => Some(line),
-            Err(MoveFault::NoMemory) => Some(0),
-        };
-        assert!(rt; line == wanted, "{text}");
-    }
+    assert!(rt; text.len() <= 99, "{text}");
+    let line = match read_moves(alloc, text.as_bytes()) {
+        Ok(_) => None,
+        Err(MoveFault::BadLine { line }) => Some(line),
+        Err(MoveFault::NoMemory) => Some(0),
+    };
+    assert!(rt; line == wanted, "{text}");
 }
 
 #[test]

@@ -1,7 +1,7 @@
 //! The rules of a table whose keys all pass.
 ghost use Rattle.std.specs.Prelude.{◌≡◌, pos, Some, option_copied, IfOk};
 ghost use Rattle.toml.specs.View.{table_view};
-ghost use Rattle.rule_file.specs.Keys.{HoldsNumber, HoldsText, IsName, IsSmall, IsWhole, kind_of};
+ghost use Rattle.rule_file.specs.Keys.{HoldsNumber, HoldsText, IsName, IsSmall, IsWholeKind, kind_of};
 ghost use Rattle.rule_file.specs.RuleText.{AllKeysPass, HasCut, HasMask, HasMover, HasOut, HasPick, HasRules, HasRun, HasSite, text_at, whole_at};
 
 use crate::check::value_at;
@@ -136,7 +136,7 @@ fn count(table: &Table, key: Key) -> u32
 
 fn whole(table: &Table, key: Key) -> i64
     requires pass { AllKeysPass (table_view table.now) }
-    requires whole { IsWhole (kind_of key) }
+    requires whole { IsWholeKind (kind_of key) }
     ensures value { whole_at (table_view table.now) key ≡ Some result }
     ensures range { HoldsNumber (kind_of key) result }
 {

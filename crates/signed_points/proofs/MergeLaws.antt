@@ -12,7 +12,7 @@ use Rattle.std.proofs.lemmas.Bool.Decides.{Decides-eqb, not_from_Decides}
 use Rattle.signed_points.specs.declared.points.Point.{Point}
 use Rattle.opc_base.specs.Sums.{sum_each}
 use Rattle.opc_base.proofs.SumLaws.{sum_each-push}
-use Rattle.signed_points.specs.Points.{Precedes, IsAscending, IsSigned, SignsWithin, IsUpTo, AllUpTo, sign_among, signs_among, IsTakenAt, AddsPoint, AreMergedUpTo, IsInOrder}
+use Rattle.signed_points.specs.Points.{PointPrecedes, IsAscending, IsSigned, SignsWithin, IsUpTo, AllUpTo, sign_among, signs_among, IsTakenAt, AddsPoint, AreMergedUpTo, IsInOrder}
 
 -- ---- a list with one more element
 
@@ -61,17 +61,17 @@ ends {X = X} (x ∷ xs) = by (ends xs)
 record IsLeft (point : Point) (old mid : List Point) (sign : ℤ) : Type 0 where
   ascending : IsAscending mid
   signed : IsSigned mid
-  behind : All (λ c. Precedes c point) mid
+  behind : All (λ c. PointPrecedes c point) mid
   sums : (places : ℤ → ℤ → Bool) → signs_among places old ≡ signs_among places mid +ℤ (if places point.line point.place then sign else pos 0)
   signs : (most : ℕ) → SignsWithin most old → SignsWithin most mid × (neg_ℤ (pos most) ≤ℤ sign) × (sign ≤ℤ pos most)
 
-precedes_through : (c d point : Point) → Precedes c d → IsUpTo point d → Precedes c point
+precedes_through : (c d point : Point) → PointPrecedes c d → IsUpTo point d → PointPrecedes c point
 precedes_through c d point (inl p) (inl q) = inl (omega (arith, ints))
 precedes_through c d point (inl p) (inr q) = inl (let a = q.0 in omega (arith, ints))
 precedes_through c d point (inr p) (inl q) = inl (let a = p.0 in omega (arith, ints))
 precedes_through c d point (inr p) (inr q) = inr (p.0 ∙ q.0, (let a = p.1 in let b = q.1 in omega (arith, ints)))
 
-precedes_apart : (c point : Point) → IsUpTo point c → (c.line ≡ point.line → c.place ≢ point.place) → Precedes c point
+precedes_apart : (c point : Point) → IsUpTo point c → (c.line ≡ point.line → c.place ≢ point.place) → PointPrecedes c point
 precedes_apart c point (inl p) apart = inl p
 precedes_apart c point (inr p) apart = inr (p.0, (let a = p.1 in let b = apart p.0 in omega (arith, ints, b)))
 
@@ -81,27 +81,27 @@ if_zero false = refl
 
 all_precede : (point : Point) (old : List Point) → AreMergedUpTo point old
     → ((rest : List Point) (c : Point) → old ≡ rest ++ c ∷ [] → c.line ≡ point.line → c.place ≢ point.place)
-    → All (λ c. Precedes c point) old
+    → All (λ c. PointPrecedes c point) old
 all_precede point old merged apart = by (ends old)
   where
-    by : (old ≡ []) ⊎ ((rest : List Point) × (c : Point) × (old ≡ rest ++ c ∷ [])) → All (λ c. Precedes c point) old
+    by : (old ≡ []) ⊎ ((rest : List Point) × (c : Point) × (old ≡ rest ++ c ∷ [])) → All (λ c. PointPrecedes c point) old
     by (inl e) = λ k d below. absurd (omega (arith, ap length e))
     by (inr e) =
         let rest = e.0 in
         let c = e.1 in
-        let pairs : AllPairs Precedes (rest ++ c ∷ []) = subst IsAscending e.2 merged.ascending in
+        let pairs : AllPairs PointPrecedes (rest ++ c ∷ []) = subst IsAscending e.2 merged.ascending in
         let behind : All (IsUpTo point) (rest ++ c ∷ []) = subst (AllUpTo point) e.2 merged.behind in
         let last : IsUpTo point c = All-last (IsUpTo point) rest c behind in
-        subst (All (λ d. Precedes d point)) (sym e.2)
-        (All-push (λ d. Precedes d point) rest c
-        (λ k d below. precedes_through (get_or rest k d) c point (AllPairs-last Precedes rest c pairs k d below) last)
+        subst (All (λ d. PointPrecedes d point)) (sym e.2)
+        (All-push (λ d. PointPrecedes d point) rest c
+        (λ k d below. precedes_through (get_or rest k d) c point (AllPairs-last PointPrecedes rest c pairs k d below) last)
         (precedes_apart c point last (apart rest c e.2)))
 
 is_left : (point : Point) (old mid : List Point) (sign : ℤ) → AreMergedUpTo point old → IsTakenAt point old mid sign → IsLeft point old mid sign
 is_left point old mid sign merged (inl stays) = record {
   ascending = subst IsAscending (sym stays.0) merged.ascending;
   signed = subst IsSigned (sym stays.0) merged.signed;
-  behind = subst (All (λ c. Precedes c point)) (sym stays.0) (all_precede point old merged stays.2);
+  behind = subst (All (λ c. PointPrecedes c point)) (sym stays.0) (all_precede point old merged stays.2);
   sums = λ places.
       let same : signs_among places mid ≡ signs_among places old = ap (λ cs. signs_among places cs) stays.0 in
       let none : (if places point.line point.place then sign else pos 0) ≡ pos 0 =
@@ -111,9 +111,9 @@ is_left point old mid sign merged (inl stays) = record {
       (subst (SignsWithin most) (sym stays.0) within, omega (arith, ints), omega (arith, ints));
 }
 is_left point old mid sign merged (inr taken) = record {
-  ascending = AllPairs-front Precedes mid taken.0 pairs;
+  ascending = AllPairs-front PointPrecedes mid taken.0 pairs;
   signed = All-front (λ c. c.sign ≢ pos 0) mid taken.0 (subst IsSigned taken.1 merged.signed);
-  behind = λ k d below. precedes_through (get_or mid k d) taken.0 point (AllPairs-last Precedes mid taken.0 pairs k d below)
+  behind = λ k d below. precedes_through (get_or mid k d) taken.0 point (AllPairs-last PointPrecedes mid taken.0 pairs k d below)
       (inr (taken.2, (let a = taken.3 in omega (arith, ints))));
   sums = λ places.
       let whole : signs_among places old ≡ signs_among places mid +ℤ sign_among places taken.0 =
@@ -126,7 +126,7 @@ is_left point old mid sign merged (inr taken) = record {
       (All-front (λ c. (neg_ℤ (pos most) ≤ℤ c.sign) × (c.sign ≤ℤ pos most)) mid taken.0 all, (let a = last.0 in omega (arith, ints)), (let a = last.1 in omega (arith, ints)));
 }
   where
-    pairs : AllPairs Precedes (mid ++ taken.0 ∷ [])
+    pairs : AllPairs PointPrecedes (mid ++ taken.0 ∷ [])
     pairs = subst IsAscending taken.1 merged.ascending
 
     at : (places : ℤ → ℤ → Bool) → sign_among places taken.0 ≡ (if places point.line point.place then sign else pos 0)
@@ -137,7 +137,7 @@ is_left point old mid sign merged (inr taken) = record {
 
 -- ---- adding a point
 
-up_to : (c point : Point) → Precedes c point → IsUpTo point c
+up_to : (c point : Point) → PointPrecedes c point → IsUpTo point c
 up_to c point (inl p) = inl p
 up_to c point (inr p) = inr (p.0, (let a = p.1 in omega (arith, ints)))
 
@@ -153,7 +153,7 @@ adds_summed : (point : Point) (old mid : List Point) (taken : ℤ) → AreMerged
     → taken +ℤ point.sign ≢ pos 0 → AddsPoint point old (mid ++ summed point taken ∷ [])
 adds_summed point old mid taken merged sign is_taken some =
     let left = is_left point old mid taken merged is_taken in record {
-      ascending = all_pairs_push Precedes mid (summed point taken) left.ascending left.behind;
+      ascending = all_pairs_push PointPrecedes mid (summed point taken) left.ascending left.behind;
       signed = All-push (λ c. c.sign ≢ pos 0) mid (summed point taken) left.signed some;
       behind = All-push (IsUpTo point) mid (summed point taken) (λ k d below. up_to (get_or mid k d) point (left.behind k d below))
           (inr (refl, omega (arith, ints)));

@@ -7,11 +7,11 @@ abbrev pub point_at : List Point → ℕ → Point
 point_at ps k = get_or ps k (record { line = pos 0; place = pos 0; sign = pos 0 })
 
 -- the line that is met first, and on it the lower place
-abbrev pub Precedes : Point → Point → Type 0
-Precedes p q = (p.line <ℤ q.line) ⊎ ((p.line ≡ q.line) × (p.place <ℤ q.place))
+abbrev pub PointPrecedes : Point → Point → Type 0
+PointPrecedes p q = (p.line <ℤ q.line) ⊎ ((p.line ≡ q.line) × (p.place <ℤ q.place))
 
 abbrev pub IsAscending : List Point → Type 0
-IsAscending ps = AllPairs Precedes ps
+IsAscending ps = AllPairs PointPrecedes ps
 
 abbrev pub IsSigned : List Point → Type 0
 IsSigned ps = All (λ p. p.sign ≢ pos 0) ps

@@ -6,7 +6,7 @@ use Rattle.std.proofs.lemmas.List.{get_or_default, get_or-drop, get_or-map, get_
 use Rattle.std.specs.List.Sorted.{IsStrictlyIncreasing}
 use Rattle.outline_model.specs.declared.fragment.Fragment.{Fragment}
 use Rattle.tiles.specs.Index.{AreByRows, AreFirsts, AreSizes, AreTiles, HoldGroups, tiling_from}
-use Rattle.tiles.specs.Keys.{AreKeys, IsNear, Precedes, key_at, key_of, square_at}
+use Rattle.tiles.specs.Keys.{AreKeys, IsSquareWithin, SquarePrecedes, key_at, key_of, square_at}
 use Rattle.tiles.specs.Places.{AreOneEach}
 use Rattle.tiles.specs.Tiles.{IsInTile, IsTilingOf, Tiling, by_place, standing, tile_at, tile_count}
 use Rattle.tiles.specs.declared.key.Key.{Key}
@@ -36,7 +36,7 @@ one_each fs side keys are = record {
         (has.0, omega (arith, has.1, size), get_or-map (λ (k : Key). k.number) keys has.0 (key_of fs side i) i has.1 ∙ ap (λ k. k.number) has.2)
 
 -- squares that ascend are by rows
-by_rows : (squares : List Square) → ((k : ℕ) → k + 1 < length squares → Precedes (square_at squares k) (square_at squares (k + 1))) → AreByRows squares
+by_rows : (squares : List Square) → ((k : ℕ) → k + 1 < length squares → SquarePrecedes (square_at squares k) (square_at squares (k + 1))) → AreByRows squares
 by_rows squares ascend j zero le below = let same : j ≡ 0 = omega arith in rw same (omega (arith, ints))
 by_rows squares ascend j (suc k) le below = ⊎_elim
     (λ later. let same : j ≡ suc k = at_top j k le later in rw same (omega (arith, ints)))
@@ -49,7 +49,7 @@ by_rows squares ascend j (suc k) le below = ⊎_elim
     step : (k : ℕ) → suc k < length squares → (square_at squares k).b ≤ℤ (square_at squares (suc k)).b
     step k below = let next : k + 1 ≡ suc k = omega arith in subst (λ m. (square_at squares k).b ≤ℤ (square_at squares m).b) next (row_of (ascend k (omega arith)))
       where
-        row_of : Precedes (square_at squares k) (square_at squares (k + 1)) → (square_at squares k).b ≤ℤ (square_at squares (k + 1)).b
+        row_of : SquarePrecedes (square_at squares k) (square_at squares (k + 1)) → (square_at squares k).b ≤ℤ (square_at squares (k + 1)).b
         row_of (inl up) = omega (arith, ints)
         row_of (inr level) = omega (arith, ints, level.0)
 
@@ -58,7 +58,7 @@ by_rows squares ascend j (suc k) le below = ⊎_elim
     climb first second = omega (arith, ints)
 
 -- a square lies in no row or column before itself
-not_itself : (s : Square) → ¬ Precedes s s
+not_itself : (s : Square) → ¬ SquarePrecedes s s
 not_itself s (inl up) = absurd (omega (arith, ints))
 not_itself s (inr right) = absurd (omega (arith, ints, right.1))
 
@@ -87,11 +87,11 @@ module _ (fs : List Fragment) (side halo : ℤ) (keys : List Key) (squares : Lis
       size : length numbers ≡ length keys
       size = ap length is ∙ length-map keys (λ (k : Key). k.number)
 
-      near : (k : ℕ) → k < length squares → IsNear side (square_at squares k)
+      near : (k : ℕ) → k < length squares → IsSquareWithin side (square_at squares k)
       near k below =
           let q : ℕ = get_or firsts k 0 in
           let end : get_or firsts (k + 1) 0 ≤ length keys = omega (arith, groups.firsts_are.ends, groups.firsts_are.ascend (k + 1) (length squares) (omega arith) (omega arith)) in
-          subst (IsNear side) (groups.in_square k q below (omega arith) (groups.some k below)) (are.near q _ (omega (arith, groups.some k below, end)))
+          subst (IsSquareWithin side) (groups.in_square k q below (omega arith) (groups.some k below)) (are.near q _ (omega (arith, groups.some k below, end)))
 
   -- what it is seen as
   pub tiling_is : (tiling : Tiling) → tiling_from side halo squares firsts (map (λ k. k.number) keys) ≡ tiling → pos 0 <ℤ side → IsTilingOf fs side halo tiling
@@ -161,7 +161,7 @@ module _ (fs : List Fragment) (side halo : ℤ) (keys : List Key) (squares : Lis
           let first = groups.in_square k q below (omega arith) a.0 in
           let second = groups.in_square k (q + 1) below (omega arith) (omega (arith, b.0)) in
           let less : (key_at keys q).number < (key_at keys (q + 1)).number = ⊎_elim
-          (λ before. absurd (not_itself (square_at squares k) (subst (λ s. Precedes (square_at squares k) s) second (subst (λ s. Precedes s (key_at keys (q + 1)).square) first before))))
+          (λ before. absurd (not_itself (square_at squares k) (subst (λ s. SquarePrecedes (square_at squares k) s) second (subst (λ s. SquarePrecedes s (key_at keys (q + 1)).square) first before))))
           (λ same. same.1)
           (are.ascend q (omega (arith, b.1, size))) in
           omega (arith, less, a.2, b.2, ap (λ m. get_or numbers m 0) next, number_at keys q (omega (arith, a.1, size)), number_at keys (q + 1) (omega (arith, b.1, size)))

@@ -5,7 +5,7 @@ use Rattle.std.proofs.lemmas.List.{get_or_append_left, get_or_default}
 use Rattle.std.proofs.Math.ListN.{get_or-eq_default}
 use Rattle.std.proofs.Math.Seq.{get_or-append_seam}
 use Rattle.tiles.specs.Index.{HoldGroups}
-use Rattle.tiles.specs.Keys.{AreGroups, IsAscending, IsLastOf, IsNoLastOf, Precedes, key_at, square_at}
+use Rattle.tiles.specs.Keys.{AreGroups, IsAscending, IsLastOf, IsNoLastOf, SquarePrecedes, key_at, square_at}
 use Rattle.tiles.specs.declared.key.Key.{Key}
 use Rattle.tiles.specs.declared.key.Square.{Square}
 
@@ -99,7 +99,7 @@ groups-new keys n squares firsts within ascending other groups = record {
     at_end k past = ends_at (firsts ++ n ∷ []) k (n + 1) (omega (arith, groups.same, length-append firsts (n ∷ [])))
 
     -- the last tile is before the new one
-    after : (k : ℕ) → length squares ≡ k + 1 → Precedes (square_at squares k) (key_at keys n).square
+    after : (k : ℕ) → length squares ≡ k + 1 → SquarePrecedes (square_at squares k) (key_at keys n).square
     after k last =
         let some = groups.some k (omega arith) in
         let end : get_or firsts (k + 1) n ≡ n = ends_at firsts (k + 1) n (omega (arith, groups.same)) in
@@ -108,7 +108,7 @@ groups-new keys n squares firsts within ascending other groups = record {
         let apart : square_at squares k ≢ (key_at keys n).square =
         subst (λ j. square_at squares j ≢ (key_at keys n).square) (let z : length squares - 1 ≡ k = omega arith in z) (other (omega arith)) in
         ⊎_elim
-        (λ before. subst (λ s. Precedes s (key_at keys n).square) there (subst (λ j. Precedes (key_at keys (n - 1)).square (key_at keys j).square) back before))
+        (λ before. subst (λ s. SquarePrecedes s (key_at keys n).square) there (subst (λ j. SquarePrecedes (key_at keys (n - 1)).square (key_at keys j).square) back before))
         (λ equal. absurd (apart (sym there ∙ equal.0 ∙ ap (λ j. (key_at keys j).square) back)))
         (ascending (n - 1) (omega (arith, back)))
 

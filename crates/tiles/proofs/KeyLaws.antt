@@ -12,7 +12,7 @@ use Rattle.std.proofs.lemmas.List.Sums.{sum_by-cons}
 use Rattle.std.proofs.lemmas.List.Elements.{All-push}
 use Rattle.std.proofs.lemmas.List.Sorted.{All-permutation, Contains-permutation, length_permutation, sum_by-IsPermutation}
 use Rattle.outline_model.specs.declared.fragment.Fragment.{Fragment}
-use Rattle.tiles.specs.Keys.{AreKeys, IsNear, ListsKeys, Precedes, key_at, key_of}
+use Rattle.tiles.specs.Keys.{AreKeys, IsSquareWithin, ListsKeys, SquarePrecedes, key_at, key_of}
 use Rattle.tiles.specs.declared.key.Key.{Key}
 use Rattle.tiles.specs.declared.key.Square.{Square}
 
@@ -72,7 +72,7 @@ two_hits (k ∷ ks) i (suc p) (suc q) d before below first second =
 -- ---- the order of the sort
 not_less : (s t : Square) (n m : ℕ) →
     is_lt (ordering_then (ordering_then (int_cmp t.b s.b) (int_cmp t.a s.a)) (nat_cmp m n)) ≡ false →
-    Precedes s t ⊎ ((s ≡ t) × (n ≤ m))
+    SquarePrecedes s t ⊎ ((s ≡ t) × (n ≤ m))
 not_less s t n m test = by (int_lt t.b s.b) (int_lt s.b t.b) (int_lt t.a s.a) (int_lt s.a t.a) refl refl refl refl test
   where
     numbers : (n m : ℕ) → is_lt (nat_cmp m n) ≡ false → n ≤ m
@@ -80,7 +80,7 @@ not_less s t n m test = by (int_lt t.b s.b) (int_lt s.b t.b) (int_lt t.a s.a) (i
 
     by : (p q r u : Bool) → int_lt t.b s.b ≡ p → int_lt s.b t.b ≡ q → int_lt t.a s.a ≡ r → int_lt s.a t.a ≡ u →
         is_lt (ordering_then (ordering_then (cond p Less (cond q Greater Equal)) (cond r Less (cond u Greater Equal))) (nat_cmp m n)) ≡ false →
-        Precedes s t ⊎ ((s ≡ t) × (n ≤ m))
+        SquarePrecedes s t ⊎ ((s ≡ t) × (n ≤ m))
     by true q r u e f g i test = absurd (cc test)
     by false true r u e f g i test = inl (inl (omega (arith, ints)))
     by false false true u e f g i test = absurd (cc test)
@@ -95,7 +95,7 @@ pub lists_none : (fs : List Fragment) (side : ℤ) (keys : List Key) → keys �
 lists_none fs side keys none = record { count = ap length none; few = omega arith; each = λ i d below. absurd (omega arith); near = λ k d below. absurd (omega (arith, ap length none)) }
 
 pub lists_more : (fs : List Fragment) (side : ℤ) (n : ℕ) (keys new : List Key) (key : Key) → n + 1 ≤ 32768 → ListsKeys fs side n keys →
-    key ≡ key_of fs side n → IsNear side key.square → new ≡ keys ++ key ∷ [] → ListsKeys fs side (n + 1) new
+    key ≡ key_of fs side n → IsSquareWithin side key.square → new ≡ keys ++ key ∷ [] → ListsKeys fs side (n + 1) new
 lists_more fs side n keys new key few lists is near pushed = record {
   count = omega (arith, ap length pushed, length-append keys (key ∷ []), lists.count);
   few = few;
@@ -105,7 +105,7 @@ lists_more fs side n keys new key few lists is near pushed = record {
       let here : n ≡ i = omega arith in
       ap (λ j. get_or (keys ++ key ∷ []) j d) (sym last) ∙ get_or-append_seam keys key [] d ∙ is ∙ ap (key_of fs side) here)
       (cases_lt i n);
-  near = subst (All (λ k. IsNear side k.square)) (sym pushed) (All-push (λ k. IsNear side k.square) keys key lists.near near);
+  near = subst (All (λ k. IsSquareWithin side k.square)) (sym pushed) (All-push (λ k. IsSquareWithin side k.square) keys key lists.near near);
 }
 
 -- the keys by number, sorted
@@ -119,7 +119,7 @@ keys_sorted fs side keys sorted lists moved ordered = record {
   few = omega (arith, size, lists.few);
   each = λ q below. each q _ below;
   complete = λ i below. Contains-permutation keys sorted (key_of fs side i) moved (i, omega (arith, lists.count), lists.each i _ below);
-  near = All-permutation (λ k. IsNear side k.square) keys sorted moved lists.near;
+  near = All-permutation (λ k. IsSquareWithin side k.square) keys sorted moved lists.near;
   distinct = λ p q before below same. absurd (omega (arith, at_most (key_at sorted q).number, two_hits sorted (key_at sorted q).number p q _ before below same refl));
   ascend = λ q below. adjacent q below (not_less (key_at sorted q).square (key_at sorted (q + 1)).square (key_at sorted q).number (key_at sorted (q + 1)).number (ordered q _ (omega arith) below));
 }
@@ -140,9 +140,9 @@ keys_sorted fs side keys sorted lists moved ordered = record {
         let number = ap (λ k. k.number) is in
         (omega (arith, number, below, lists.count), is ∙ ap (key_of fs side) (sym number)))
 
-    adjacent : (q : ℕ) → q + 1 < length sorted → Precedes (key_at sorted q).square (key_at sorted (q + 1)).square
+    adjacent : (q : ℕ) → q + 1 < length sorted → SquarePrecedes (key_at sorted q).square (key_at sorted (q + 1)).square
         ⊎ (((key_at sorted q).square ≡ (key_at sorted (q + 1)).square) × ((key_at sorted q).number ≤ (key_at sorted (q + 1)).number)) →
-        Precedes (key_at sorted q).square (key_at sorted (q + 1)).square
+        SquarePrecedes (key_at sorted q).square (key_at sorted (q + 1)).square
         ⊎ (((key_at sorted q).square ≡ (key_at sorted (q + 1)).square) × ((key_at sorted q).number < (key_at sorted (q + 1)).number))
     adjacent q below (inl before) = inl before
     adjacent q below (inr same) = inr (

@@ -8,3 +8,4 @@ pub mod DivLaws
 pub mod BuiltLaws
 pub mod RowLaws
 pub mod TilingLaws
+pub mod TilingIsUnique

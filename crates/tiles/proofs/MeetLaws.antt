@@ -146,3 +146,13 @@ far set n f tile side halo rect wide stands away k lane below =
 
     along : ((tile.b *ℤ side -ℤ halo) ≤ℤ (here.y -ℤ pos set.reach)) × ((here.y +ℤ pos set.reach) <ℤ (tile.b *ℤ side +ℤ side +ℤ halo))
     along = in_grown (tile.b *ℤ side) side halo here.y (site_of f (negsuc 0)).y set.reach n wide stands.below stands.above near.1
+
+-- all that a kernel sees from a sample of a fragment of the tile lies in the tile's grown square
+pub square_shows : (reach n : ℕ) (f : Fragment) (tile : Listed) (side halo : ℤ) (k : ℕ) → pos (reach + n) ≤ℤ halo → IsInTile side tile (site_of f (negsuc 0)) → k < n + n →
+    SeesWithin reach (site_of f (pos k -ℤ pos n))
+    (record { x0 = tile.a *ℤ side -ℤ halo; y0 = tile.b *ℤ side -ℤ halo; x1 = tile.a *ℤ side +ℤ side +ℤ halo; y1 = tile.b *ℤ side +ℤ side +ℤ halo })
+square_shows reach n f tile side halo k wide stands below =
+    let near = site_near f k n below in
+    let across = in_grown (tile.a *ℤ side) side halo (site_of f (pos k -ℤ pos n)).x (site_of f (negsuc 0)).x reach n wide stands.left stands.right near.0 in
+    let along = in_grown (tile.b *ℤ side) side halo (site_of f (pos k -ℤ pos n)).y (site_of f (negsuc 0)).y reach n wide stands.below stands.above near.1 in
+    record { left = across.0; right = across.1; below = along.0; above = along.1 }

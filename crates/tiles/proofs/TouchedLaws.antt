@@ -82,3 +82,24 @@ steps_some tiling rect from end k now found left first some =
     let at = subst (IsFirstMet tiling rect from end) some first in
     sym left ∙ skipped (meet_tile tiling rect) (k - from) from k end (omega (arith, at.0)) (omega (arith, at.1)) at.3
     ∙ taken (meet_tile tiling rect) k end at.1 at.2
+
+-- the first of them reaches the rectangle, or doesn't
+pub touched_between-met : (tiling : Tiling) (rect : Rect) (tile high : ℕ) → tile < high → meet_tile tiling rect tile ≡ true →
+    touched_between tiling rect tile high ≡ tile ∷ touched_between tiling rect (tile + 1) high
+touched_between-met tiling rect tile high below met = taken (meet_tile tiling rect) tile high below met
+
+pub touched_between-missed : (tiling : Tiling) (rect : Rect) (tile high : ℕ) → tile < high → meet_tile tiling rect tile ≡ false →
+    touched_between tiling rect tile high ≡ touched_between tiling rect (tile + 1) high
+touched_between-missed tiling rect tile high below missed = left_out (meet_tile tiling rect) tile high below missed
+
+-- of some tiles, only those of a band reach it
+pub between_band : (tiling : Tiling) (rect : Rect) (first low high last : ℕ) → first ≤ low → low ≤ high → high ≤ last →
+    ((k : ℕ) → first ≤ k → k < low → meet_tile tiling rect k ≡ false) → ((k : ℕ) → high ≤ k → k < last → meet_tile tiling rect k ≡ false) →
+    touched_between tiling rect low high ≡ touched_between tiling rect first last
+between_band tiling rect first low high last up order upper before after =
+    cut_off (meet_tile tiling rect) (high - low) low high last (omega arith) upper after
+    ∙ sym (skipped (meet_tile tiling rect) (low - first) first low last (omega arith) (omega arith) before)
+
+-- all tiles are those from the first to the last
+pub touched_between-all : (tiling : Tiling) (rect : Rect) → touched_between tiling rect 0 (tile_count tiling) ≡ touched_tiles tiling rect
+touched_between-all tiling rect = ap (λ n. filter (meet_tile tiling rect) (range_with_len 0 n)) (let all : tile_count tiling - 0 ≡ tile_count tiling = omega arith in all)

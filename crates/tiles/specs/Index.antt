@@ -1,7 +1,7 @@
 -- What an index of fragments by tiles keeps.
 use Rattle.std.specs.Prelude.{◌≡◌, ℕ, ◌+◌, ◌<◌, ◌≤◌, ℤ, pos, ◌≤ℤ◌, List, [], ◌∷◌, Some, length, get_or, slice_get, slice_range}
 use Rattle.tiles.specs.Tiles.{Listed, Tiling}
-use Rattle.tiles.specs.Keys.{IsNear, Precedes, key_at, square_at}
+use Rattle.tiles.specs.Keys.{IsSquareWithin, SquarePrecedes, key_at, square_at}
 use Rattle.tiles.specs.declared.key.Key.{Key}
 use Rattle.tiles.specs.declared.key.Square.{Square}
 
@@ -28,7 +28,7 @@ pub record HoldGroups (keys : List Key) (squares : List Square) (firsts : List �
   pub firsts_are : AreFirsts firsts (length squares) (length keys)
   pub some : (k : ℕ) → k < length squares → get_or firsts k 0 < get_or firsts (k + 1) 0
   pub in_square : (k q : ℕ) → k < length squares → get_or firsts k 0 ≤ q → q < get_or firsts (k + 1) 0 → (key_at keys q).square ≡ square_at squares k
-  pub ascend : (k : ℕ) → k + 1 < length squares → Precedes (square_at squares k) (square_at squares (k + 1))
+  pub ascend : (k : ℕ) → k + 1 < length squares → SquarePrecedes (square_at squares k) (square_at squares (k + 1))
 
 -- none is in a row below that of one before it
 abbrev pub AreByRows : List Square → Type 0
@@ -43,7 +43,7 @@ pub record AreSizes (side halo : ℤ) : Type 0 where
 -- squares by rows, where each begins, the fragments by place, and the place of each
 pub record AreTiles (side halo : ℤ) (squares : List Square) (firsts numbers places : List ℕ) : Type 0 where
   pub sizes : AreSizes side halo
-  pub near : (k : ℕ) → k < length squares → IsNear side (square_at squares k)
+  pub near : (k : ℕ) → k < length squares → IsSquareWithin side (square_at squares k)
   pub rows : AreByRows squares
   pub few : length numbers ≤ 32768
   pub firsts_are : AreFirsts firsts (length squares) (length numbers)

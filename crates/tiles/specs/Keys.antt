@@ -20,27 +20,27 @@ abbrev pub key_at : List Key → ℕ → Key
 key_at keys k = get_or keys k (record { square = record { b = pos 0; a = pos 0 }; number = 0 })
 
 -- how far from 0 a square and its sides may lie
-pub record IsNear (side : ℤ) (square : Square) : Type 0 where
+pub record IsSquareWithin (side : ℤ) (square : Square) : Type 0 where
   pub a : unsigned_abs square.a ≤ 1053000
   pub b : unsigned_abs square.b ≤ 1053000
   pub x : unsigned_abs (square.a *ℤ side) ≤ 1053000
   pub y : unsigned_abs (square.b *ℤ side) ≤ 1053000
 
 -- by b, and those of one b by a
-abbrev pub Precedes : Square → Square → Type 0
-Precedes s t = (s.b <ℤ t.b) ⊎ ((s.b ≡ t.b) × (s.a <ℤ t.a))
+abbrev pub SquarePrecedes : Square → Square → Type 0
+SquarePrecedes s t = (s.b <ℤ t.b) ⊎ ((s.b ≡ t.b) × (s.a <ℤ t.a))
 
 -- the keys of the first n fragments by number
 pub record ListsKeys (fs : List Fragment) (side : ℤ) (n : ℕ) (keys : List Key) : Type 0 where
   pub count : length keys ≡ n
   pub few : n ≤ 32768
   pub each : (i : ℕ) (d : Key) → i < n → get_or keys i d ≡ key_of fs side i
-  pub near : All (λ k. IsNear side k.square) keys
+  pub near : All (λ k. IsSquareWithin side k.square) keys
 
 -- each key is before the next, by its tile or else by its number
 abbrev pub IsAscending : List Key → Type 0
 IsAscending keys = (q : ℕ) → q + 1 < length keys →
-    Precedes (key_at keys q).square (key_at keys (q + 1)).square
+    SquarePrecedes (key_at keys q).square (key_at keys (q + 1)).square
     ⊎ (((key_at keys q).square ≡ (key_at keys (q + 1)).square) × ((key_at keys q).number < (key_at keys (q + 1)).number))
 
 -- a key for each fragment, ascending by tile and in each tile by number
@@ -49,7 +49,7 @@ pub record AreKeys (fs : List Fragment) (side : ℤ) (keys : List Key) : Type 0 
   pub few : length keys ≤ 32768
   pub each : (q : ℕ) → q < length keys → ((key_at keys q).number < length fs) × (key_at keys q ≡ key_of fs side (key_at keys q).number)
   pub complete : (i : ℕ) → i < length fs → Contains keys (key_of fs side i)
-  pub near : All (λ k. IsNear side k.square) keys
+  pub near : All (λ k. IsSquareWithin side k.square) keys
   pub distinct : (p q : ℕ) → p < q → q < length keys → (key_at keys p).number ≢ (key_at keys q).number
   pub ascend : IsAscending keys
 
@@ -67,4 +67,4 @@ pub record AreGroups (keys : List Key) (n : ℕ) (squares : List Square) (firsts
   pub begins : get_or firsts 0 n ≡ 0
   pub some : (k : ℕ) → k < length squares → get_or firsts k n < get_or firsts (k + 1) n
   pub in_square : (k q : ℕ) → k < length squares → get_or firsts k n ≤ q → q < get_or firsts (k + 1) n → (key_at keys q).square ≡ square_at squares k
-  pub ascend : (k : ℕ) → k + 1 < length squares → Precedes (square_at squares k) (square_at squares (k + 1))
+  pub ascend : (k : ℕ) → k + 1 < length squares → SquarePrecedes (square_at squares k) (square_at squares (k + 1))

@@ -1,7 +1,7 @@
 //! Fragments by the tiles in which they stand.
 
 ghost use Rattle.std.specs.Prelude.{◌≡◌, ◌<◌, pos, ◌≤ℤ◌, IfOk, length};
-ghost use Rattle.tiles.specs.Keys.{AreKeys, IsNear, ListsKeys, key_of};
+ghost use Rattle.tiles.specs.Keys.{AreKeys, IsSquareWithin, ListsKeys, key_of};
 
 use fragment::Fragments;
 use opc_base::NoMemory;
@@ -51,7 +51,7 @@ fn key_of(fragments: &Fragments, side: i32, number: u32) -> Key
     requires most { side ≤ℤ pos 4096 }
     requires number { number < length fragments.now }
     ensures key { result ≡ key_of fragments.now side number }
-    ensures near { IsNear side result.square }
+    ensures near { IsSquareWithin side result.square }
 {
     let site = fragments.site(number, -1);
     Key {

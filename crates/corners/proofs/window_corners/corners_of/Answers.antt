@@ -6,8 +6,10 @@ use Rattle.opc_base.specs.declared.plane.Rect.{Rect}
 use Rattle.opc_base.proofs.SumLaws.{sum_each-more, sum_each_start}
 use Rattle.corners.specs.Points.{corner_from, quadrants}
 use Rattle.signed_points.specs.Points.{IsInOrder, SignsWithin}
-use Rattle.corners.specs.Windows.{AreInRows, IsCornerIn, clip, in_window}
+use Rattle.corners.specs.Windows.{AreInRows, IsCornerIn, LieWithin, clip, in_window}
+use Rattle.corners.proofs.LimitLaws.{in_square, limit_square, limit_square_within}
 use Rattle.corners.proofs.MergeLaws.{quadrants-nil}
+use Rattle.corners.proofs.RegionLaws.{corners_within}
 use Rattle.signed_points.proofs.MergeLaws.{in_order}
 use Rattle.corners.proofs.SignLaws.{add_up_near, each_in, in_rows, quadrants_are, signs_are, signs_within}
 use Rattle.corners.proofs.WindowLaws.{merged_sums}
@@ -74,6 +76,14 @@ pub returns-clause-each : goal.returns-clause-each
 returns-clause-each c =
     subst (All (IsCornerIn c.args.window)) (sym (made c))
     (each_in c.args.window (cover c.args.rects.now) c.in_ok-merged.merged.items c.in_ok-merged.ensures.ascending c.in_ok-merged.ensures.signed (sums_then c))
+
+pub returns-clause-within : goal.returns-clause-within
+returns-clause-within c most within =
+    let seen = in_window c.args.window (cover c.args.rects.now) in
+    subst (LieWithin most) (sym (made c))
+    (corners_within most (limit_square most) (map corner_from c.in_ok-merged.merged.items) (limit_square_within most)
+    (each_in (limit_square most) seen c.in_ok-merged.merged.items c.in_ok-merged.ensures.ascending c.in_ok-merged.ensures.signed
+    (λ y x. sums_then c y x ∙ in_square most c.args.window c.args.rects.now x y within)))
 
 pub returns-clause-signs : goal.returns-clause-signs
 returns-clause-signs c x y =

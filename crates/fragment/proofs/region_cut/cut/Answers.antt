@@ -1,7 +1,7 @@
 -- The pieces of a region are met at their ends, and joined they are its fragments.
-use Rattle.std.proofs.Common.{◌≤◌, List, length, sym, subst}
+use Rattle.std.proofs.Common.{◌≤◌, List, length, All, sym, subst, arith}
 use Rattle.edges.specs.Disjoint.{AreSolidAndApart}
-use Rattle.opc_base.specs.Plane.{cover}
+use Rattle.opc_base.specs.Plane.{IsRectWithin, cover}
 use Rattle.outline_model.specs.declared.fragment.Fragment.{Fragment}
 use Rattle.outline_model.specs.Fragmentation.{AreFragments}
 use Rattle.outline_model.specs.Limits.{IsFragmentList}
@@ -13,7 +13,10 @@ use Rattle.fragment.proofs.region_cut.cut.Goals as goal
 
 pub find_pieces-requires-clause-disjoint : goal.find_pieces-requires-clause-disjoint
 find_pieces-requires-clause-disjoint c =
-    subst AreSolidAndApart (sym c.rects-rects.ensures.list) (canonical_apart c.args.region.now c.rects-rects.ensures.canonical c.requires.placed)
+    subst AreSolidAndApart (sym c.rects-rects.ensures.list) (canonical_apart 1048000 c.args.region.now (omega arith) c.rects-rects.ensures.canonical c.requires.placed)
+
+pub find_pieces-requires-clause-placed : goal.find_pieces-requires-clause-placed
+find_pieces-requires-clause-placed c = subst (All (IsRectWithin 1048000)) (sym c.rects-rects.ensures.list) c.requires.placed
 
 pub join_pieces-requires-clause-met : goal.join_pieces-requires-clause-met
 join_pieces-requires-clause-met c k below =

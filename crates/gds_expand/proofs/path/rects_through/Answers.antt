@@ -2,7 +2,7 @@ use Rattle.std.proofs.Common.{◌≡◌, ℕ, ◌+◌, ◌^◌, ◌<◌, ℤ, po
 use Rattle.std.proofs.lemmas.Int.{ints, to_z-of_z}
 use Rattle.std.proofs.lemmas.List.{take_rest}
 use Rattle.std.proofs.lemmas.List.Elements.{All-get_or, All-head, All-tail}
-use Rattle.gds_model.specs.Placement.{IsWithin}
+use Rattle.gds_model.specs.Placement.{IsPositionWithin}
 use Rattle.gds_model.specs.declared.position.Position.{Position}
 use Rattle.gds_model.specs.declared.position.PathForm.{PathForm}
 use Rattle.gds_model.specs.PathRects.{extension_before, full_width, segment_rect}
@@ -15,9 +15,9 @@ passed_value : (z v : ℤ) → FitsSigned w64 z → z ≡ v → to_z w64 (of_z w
 passed_value z v fits e = to_z-of_z w64 z fits ∙ e
 
 each_near : (corners : List Position) (first : Position) (rest : List Position) (i : ℕ) (d : Position) → corners ≡ first ∷ rest →
-    All (IsWithin (2 ^ 51)) corners → i < length rest → IsWithin (2 ^ 51) (get_or rest i d)
+    All (IsPositionWithin (2 ^ 51)) corners → i < length rest → IsPositionWithin (2 ^ 51) (get_or rest i d)
 each_near corners first rest i d e all there =
-    All-get_or (IsWithin (2 ^ 51)) rest i d there (All-tail (IsWithin (2 ^ 51)) first rest (subst (λ (ps : List Position). All (IsWithin (2 ^ 51)) ps) e all))
+    All-get_or (IsPositionWithin (2 ^ 51)) rest i d there (All-tail (IsPositionWithin (2 ^ 51)) first rest (subst (λ (ps : List Position). All (IsPositionWithin (2 ^ 51)) ps) e all))
 
 pub loop-i-preserved : goal.loop-i-preserved
 loop-i-preserved c =
@@ -55,6 +55,6 @@ segment_rect-rect-requires-clause-to c =
 
 pub loop-i-init : goal.loop-i-init
 loop-i-init c =
-    let all : All (IsWithin (2 ^ 51)) (c.in-Some.first.now ∷ c.in-Some.rest.now) =
-    subst (λ (ps : List Position). All (IsWithin (2 ^ 51)) ps) c.in-Some.ensures.cases.0 c.requires in
-    record { made = search rules; small = search rules; near = All-head (IsWithin (2 ^ 51)) c.in-Some.first.now c.in-Some.rest.now all }
+    let all : All (IsPositionWithin (2 ^ 51)) (c.in-Some.first.now ∷ c.in-Some.rest.now) =
+    subst (λ (ps : List Position). All (IsPositionWithin (2 ^ 51)) ps) c.in-Some.ensures.cases.0 c.requires in
+    record { made = search rules; small = search rules; near = All-head (IsPositionWithin (2 ^ 51)) c.in-Some.first.now c.in-Some.rest.now all }

@@ -15,11 +15,11 @@ use Rattle.gds_expand.proofs.rows.push_named.Goals as goal
 
 pub push_reference-requires-clause-right : goal.push_reference-requires-clause-right
 push_reference-requires-clause-right c =
-    right_own c.args.library.now.structures c.args.reference.now c.in-Some.target c.requires.right (sym c.number_of.ensures ∙ c.in-Some.is)
+    right_own c.args.library.now.structures c.args.reference.now c.in-Some.target c.requires.right (sym c.number_of.ensures.number ∙ c.in-Some.is)
 
 pub push_reference-requires-clause-near : goal.push_reference-requires-clause-near
 push_reference-requires-clause-near c =
-    let named : number_of c.args.library.now.structures c.args.reference.now.name ≡ Some c.in-Some.target = sym c.number_of.ensures ∙ c.in-Some.is in
+    let named : number_of c.args.library.now.structures c.args.reference.now.name ≡ Some c.in-Some.target = sym c.number_of.ensures.number ∙ c.in-Some.is in
     let below : c.in-Some.target < length c.args.library.now.structures = number_below _ _ _ named in
     let there : c.in-Some.target < length c.args.plan.now = omega (arith, below, c.requires.sized) in
     let here : steps_of c.args.plan.now c.in-Some.target ≡ c.deref.result.now = steps_of-row c.args.plan.now c.in-Some.target _ there c.index-plan-target.is ∙ sym c.deref.ensures.value in
@@ -31,7 +31,7 @@ returns-in-Some c =
     let r = c.args.reference.now in
     let old = c.args.steps.now.items in
     let new = c.push_reference.new.steps.items in
-    let named : number_of library r.name ≡ Some c.in-Some.target = sym c.number_of.ensures ∙ c.in-Some.is in
+    let named : number_of library r.name ≡ Some c.in-Some.target = sym c.number_of.ensures.number ∙ c.in-Some.is in
     let below : c.in-Some.target < length library = number_below _ _ _ named in
     let there : c.in-Some.target < length c.args.plan.now = omega (arith, below, c.requires.sized) in
     let here : steps_of c.args.plan.now c.in-Some.target ≡ c.deref.result.now = steps_of-row c.args.plan.now c.in-Some.target _ there c.index-plan-target.is ∙ sym c.deref.ensures.value in

@@ -2,7 +2,7 @@ use Rattle.std.proofs.Common.{◌≡◌, ◌-◌, ◌*◌, ◌^◌, ◌<◌, ◌
 use Rattle.std.proofs.lemmas.List.{nil_from_length}
 use Rattle.gds_expand.specs.declared.walk.Step.TheVariants.{Shape, Copy}
 use Rattle.gds_expand.specs.declared.walk.Task.{Task}
-use Rattle.gds_expand.proofs.WalkLemmas.{IsWalking, IsWithin-le, steps_of-row, goes_on_at, with_last, last_placing, near_task, starts_walk_from, ends_near, ends_walk, ends_task, places_shape, enters_copy, walks_on, fewer_at_end, fewer_at_shape, fewer_at_copy}
+use Rattle.gds_expand.proofs.WalkLemmas.{IsWalking, IsPositionWithin-le, steps_of-row, goes_on_at, with_last, last_placing, near_task, starts_walk_from, ends_near, ends_walk, ends_task, places_shape, enters_copy, walks_on, fewer_at_end, fewer_at_shape, fewer_at_copy}
 use Rattle.gds_expand.proofs.walk.placed_shapes.Goals as goal
 
 pub walk-init : goal.walk-init
@@ -52,7 +52,7 @@ after-requires-clause-inner c =
     let on = goes_on_at c.args.plan.now c.in-Some.task.structure c.in-Some.task.next _ _ (Copy c.in-Copy.target c.in-Copy.inner) here c.in-Some-get.ensures.lookup.3.0 c.in-Some-get.ensures.lookup.3.1 c.in-Copy.is in
     let low : c.walk.invariant.rank c.in-Some.task.structure ≤ c.walk.invariant.rank c.args.top = (last_placing c.args.plan.now c.walk.invariant.rank c.args.top _ _ _ _ c.in-Some.ensures.items c.walk.invariant.walking).lower in
     let small : (c.walk.invariant.rank c.in-Some.task.structure - c.walk.invariant.rank c.in-Copy.target) * 2 ^ 34 ≤ 2 ^ 61 = omega (arith, c.walk.invariant.deep) in
-    IsWithin-le _ (2 ^ 61) c.in-Copy.inner.shift small (c.walk.invariant.ranked.near c.in-Some.task.structure c.in-Copy.target c.in-Copy.inner on.there)
+    IsPositionWithin-le _ (2 ^ 61) c.in-Copy.inner.shift small (c.walk.invariant.ranked.near c.in-Some.task.structure c.in-Copy.target c.in-Copy.inner on.there)
 
 pub walk-smaller-in-Continue-branch-4 : goal.walk-smaller-in-Continue-branch-4
 walk-smaller-in-Continue-branch-4 c =

@@ -5,7 +5,7 @@ use Rattle.outline_model.specs.declared.fragment.Fragment.{Fragment}
 use Rattle.outline_model.specs.Outline.{fragment_at, end_at, joined, side_of, low_end, rect_between}
 use Rattle.mask_rules.specs.Placements.{line_of}
 use Rattle.mask_rules.proofs.StretchIs.{high_joined}
-use Rattle.mask_rules.specs.Limits.{IsRectWithin}
+use Rattle.mask_rules.specs.Limits.{IsMaskRect}
 use Rattle.mask_rules.proofs.OffsetMoves.{rect_within}
 use Rattle.mask_rules.proofs.crossing.swept.Goals as goal
 
@@ -30,7 +30,7 @@ returns-clause-within c =
     let high_fits : SFits w32 c.end-high.result = search rules in
     let to_fits = c.ranges.to in
     let is : c.rect_between.result ≡ rect_between c.get-fragment.result.now.side c.line-from.result c.args.to c.end-low.result c.end-high.result = simp to_z-of_z at c.rect_between.ensures in
-    subst IsRectWithin (sym is)
+    subst IsMaskRect (sym is)
     (rect_within c.get-fragment.result.now.side c.line-from.result c.args.to c.end-low.result c.end-high.result c.line-from.ensures.within c.requires.to c.end-low.ensures.within)
 
 pub end-high-requires-clause-join : goal.end-high-requires-clause-join

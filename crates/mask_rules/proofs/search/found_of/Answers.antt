@@ -6,7 +6,7 @@ use Rattle.std.proofs.lemmas.List.{map-id}
 use Rattle.outline_model.specs.declared.fragment.Fragment.{Fragment}
 use Rattle.opc_base.specs.declared.plane.Rect.{Rect}
 use Rattle.mask_rules.specs.declared.stretch.Stretch.{Stretch}
-use Rattle.mask_rules.specs.Clashes.{ClashesOf, around}
+use Rattle.mask_rules.specs.Clashes.{ClashesOf, clash_area}
 use Rattle.mask_rules.specs.Found.{IsFound, none_found, pair_found}
 use Rattle.mask_rules.specs.Placements.{line_of}
 use Rattle.mask_rules.specs.Stretches.{stretch_at}
@@ -46,15 +46,15 @@ returns c =
     let far = c.max-reach.result in
     let far_fits : SFits w32 far = search rules in
     let mine_is : c.stretch-mine.result ≡ stretch_at fs line v c.args.c = c.stretch-mine.ensures.stretch in
-    let around_is : c.around.result ≡ around far v (stretch_at fs line v c.args.c) = (simp to_z-of_z at c.around.ensures) ∙ ap (around far v) mine_is in
+    let around_is : c.clash_area.result ≡ clash_area far v (stretch_at fs line v c.args.c) = (simp to_z-of_z at c.clash_area.ensures) ∙ ap (clash_area far v) mine_is in
     let reach_fits : SFits w32 p.reach = search rules in
     let reach_is = simp to_z-of_z at c.meets_within-k-items.ensures.complete in
-    let near_all : IsAllNear c.args.near.now p.reach c.around.result c.meets_within-k-items.result =
+    let near_all : IsAllNear c.args.near.now p.reach c.clash_area.result c.meets_within-k-items.result =
     record { below = c.meets_within-k-items.ensures.below; complete = reach_is } in
-    let near : IsAllNear fs p.reach (around far v (stretch_at fs line v c.args.c)) c.loop-k.yielded =
-    subst (IsAllNear fs p.reach (around far v (stretch_at fs line v c.args.c))) (sym all)
+    let near : IsAllNear fs p.reach (clash_area far v (stretch_at fs line v c.args.c)) c.loop-k.yielded =
+    subst (IsAllNear fs p.reach (clash_area far v (stretch_at fs line v c.args.c))) (sym all)
     (subst (λ (r : Rect). IsAllNear fs p.reach r c.meets_within-k-items.result) around_is
-    (subst (λ (l : List Fragment). IsAllNear l p.reach c.around.result c.meets_within-k-items.result) c.requires.near near_all)) in
+    (subst (λ (l : List Fragment). IsAllNear l p.reach c.clash_area.result c.meets_within-k-items.result) c.requires.near near_all)) in
     let first_is : c.loop-k.first ≡ each_from (λ k. pair_found r v (stretch_at fs line v c.args.c) (stretch_at fs line v k)) none_found c.loop-k.yielded =
     c.loop-k.invariant ∙ ap (λ s. each_from (λ k. pair_found r v s (stretch_at fs line v k)) none_found c.loop-k.yielded) mine_is in
     let width : r.width ≤ℤ far = omega (arith, ints, clamps) in

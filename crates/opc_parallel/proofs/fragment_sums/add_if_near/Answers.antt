@@ -12,8 +12,8 @@ use Rattle.opc_parallel.proofs.fragment_sums.add_if_near.Goals as goal
 stored : (reach n : ℕ) → reach ≤ 64 → n ≤ 16 → to_z w32 (of_z w32 (to_z w32 (of_z w32 (pos reach)) +ℤ to_z w32 n)) ≡ pos (reach + n)
 stored reach n near few = omega (arith, ints)
 
-pub returns-else-sees : goal.returns-else-sees
-returns-else-sees g c =
+pub returns-else-sees-clause-rises : goal.returns-else-sees-clause-rises
+returns-else-sees-clause-rises g c =
     let s = setting_of c.args.work.now in
     let far = ap (λ z. to_z w32 (of_z w32 (to_z w32 (of_z w32 z) +ℤ to_z w32 s.samples))) c.reach.ensures.reach
     ∙ stored s.set.reach s.samples (reach_within s.set c.reach.ensures.bounds) c.requires.ready.samples_few in

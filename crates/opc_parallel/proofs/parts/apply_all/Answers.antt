@@ -6,18 +6,8 @@ use Rattle.opc_parallel.specs.Conditions.{IsReady}
 use Rattle.opc_parallel.specs.Parts.{IsRun}
 use Rattle.opc_parallel.specs.Stored.{CanTake, Setting, list_change, start_at, stride_of}
 use Rattle.opc_parallel.proofs.PartLaws.{IsRun-whole}
-use Rattle.opc_parallel.proofs.StoredLaws.{adds_all, can_take, no_places, ready_is, start_end, start_zero}
+use Rattle.opc_parallel.proofs.StoredLaws.{adds_all, can_take, few_samples, halo_is, no_places, ready_is, some_samples, start_end, start_zero}
 use Rattle.opc_parallel.proofs.parts.apply_all.Goals as goal
-
--- the halo, where the samples are counted as a natural number
-halo_is : (halo samples : ℤ) (reach : ℕ) → pos 1 ≤ℤ samples → halo ≡ pos reach +ℤ samples → halo ≡ pos (reach + unsigned_abs samples)
-halo_is halo samples reach some is = omega (arith, ints, is)
-
-some_samples : (samples : ℤ) → pos 1 ≤ℤ samples → 1 ≤ unsigned_abs samples
-some_samples samples some = omega (arith, ints)
-
-few_samples : (samples : ℤ) → pos 1 ≤ℤ samples → samples ≤ℤ pos 16 → unsigned_abs samples ≤ 16
-few_samples samples some few = omega (arith, ints)
 
 no_tiles : (workers tiles parts : ℕ) → 1 ≤ workers → parts ≡ min workers tiles → parts ≤ 0 → tiles ≡ 0
 no_tiles workers tiles parts some is none = omega (arith, is)

@@ -1,5 +1,7 @@
 use Rattle.std.proofs.Common.{◌≡◌, ◌+◌, ◌*◌, ◌-◌, ◌≤◌, length, get_or, zero-add, take, drop, ap, arith}
+use Rattle.std.proofs.Math.Nat.{mul-le-mul_left}
 use Rattle.std.proofs.lemmas.List.{length-take}
+use Rattle.tiles.specs.Tiles.{fragments_of}
 use Rattle.opc_base.proofs.ChangeLaws.{RisesBetween-join, RisesBetween-part, RisesBy-moved, RisesBy-between}
 use Rattle.opc_parallel.specs.Conditions.{setting_of}
 use Rattle.opc_parallel.specs.Stored.{start_at, stride_of}
@@ -32,7 +34,7 @@ slice_bounds-own-end g c =
     let s = setting_of c.args.work.now in
     let within = tile_fits s c.args.tile (length c.args.sums.now) c.loop-place.place c.requires.tile c.requires.size (rw c.fragments-number-items.ensures at c.loop-place-test.true) in
     let ends : c.loop-place.place * c.stride-stride.result + c.stride-stride.result ≤ length c.loop-place.sums =
-    rw c.stride-stride.ensures.stride (omega (arith, within, c.loop-place.invariant.same_length)) in
+    rw c.stride-stride.ensures.stride (omega (arith, within, c.loop-place.invariant.0.same_length)) in
     omega (arith, ends)
 
 pub add_if_near-requires-clause-number : goal.add_if_near-requires-clause-number
@@ -45,7 +47,7 @@ add_if_near-requires-clause-sums g c =
     let s = setting_of c.args.work.now in
     let within = tile_fits s c.args.tile (length c.args.sums.now) c.loop-place.place c.requires.tile c.requires.size (rw c.fragments-number-items.ensures at c.loop-place-test.true) in
     rw c.stride-stride.ensures.stride (AreLanes-part (stride_of s) (c.loop-place.place * stride_of s + stride_of s - c.loop-place.place * stride_of s) (c.loop-place.place * stride_of s) c.loop-place.sums (omega arith)
-    (omega (arith, within, c.loop-place.invariant.same_length)) (λ i from below. rw (c.loop-place.invariant.after i from) (c.requires.small.small i (omega (arith, below, within)))))
+    (omega (arith, within, c.loop-place.invariant.0.same_length)) (λ i from below. rw (c.loop-place.invariant.0.after i from) (c.requires.small.small i (omega (arith, below, within)))))
 
 pub loop-place-preserved : goal.loop-place-preserved
 loop-place-preserved g c =
@@ -57,16 +59,24 @@ loop-place-preserved g c =
     let within = tile_fits s c.args.tile (length c.args.sums.now) p c.requires.tile c.requires.size p_below in
     let read = ap (λ xs. get_or xs p 0) c.fragments-number-items.ensures in
     let next : (p + 1) * stride ≡ p * stride + stride = omega arith in
-    let part_length : length (take (p * stride + stride - p * stride) (drop (p * stride) c.loop-place.sums)) ≤ stride = simp length-take (omega arith) in
-    rw (c.stride-stride.ensures.stride, next) (RisesBetween-join _ start 0 (p * stride) (p * stride + stride) _ _ _ (omega arith) (omega arith) c.loop-place.invariant
-    (RisesBetween-part _ start (p * stride) _ stride _ _ (omega arith) (omega (arith, within, c.loop-place.invariant.same_length))
-    (RisesBy-moved _ _ 0 (start + p * stride) _ _ (λ i below.
-    rw (zero-add i) (change_at-fragment s c.args.swept c.args.tile p i (start + p * stride + i) _ c.requires.ready c.requires.tile p_below (omega arith) (omega (arith, part_length, below)) read))
-    (rw c.stride-stride.ensures.stride at c.add_if_near.ensures))))
+    let part_length : length (take (p * stride + stride - p * stride) (drop (p * stride) c.loop-place.sums)) ≤ stride = simp length-take (omega arith) in (
+      rw (c.stride-stride.ensures.stride, next) (RisesBetween-join _ start 0 (p * stride) (p * stride + stride) _ _ _ (omega arith) (omega arith) c.loop-place.invariant.0
+          (RisesBetween-part _ start (p * stride) _ stride _ _ (omega arith) (omega (arith, within, c.loop-place.invariant.0.same_length))
+          (RisesBy-moved _ _ 0 (start + p * stride) _ _ (λ i below.
+          rw (zero-add i) (change_at-fragment s c.args.swept c.args.tile p i (start + p * stride + i) _ c.requires.ready c.requires.tile p_below (omega arith) (omega (arith, part_length, below)) read))
+          (rw c.stride-stride.ensures.stride at c.add_if_near.ensures.rises)))),
+      omega (arith, c.loop-place.invariant.1, c.add_if_near.ensures.cost),
+    )
 
-pub returns : goal.returns
-returns g c =
+pub returns-clause-rises : goal.returns-clause-rises
+returns-clause-rises g c =
     let s = setting_of c.args.work.now in
     let past = rw c.fragments-number-items.ensures at c.loop-place-test.false in
     let done = tile_ends s c.args.tile (length c.args.sums.now) c.loop-place.place c.requires.tile c.requires.size (omega (arith, past)) in
-    RisesBy-between _ _ (c.loop-place.place * stride_of s) _ _ done c.loop-place.invariant
+    RisesBy-between _ _ (c.loop-place.place * stride_of s) _ _ done c.loop-place.invariant.0
+
+pub returns-clause-cost : goal.returns-clause-cost
+returns-clause-cost g c =
+    let items = c.fragments-number-items.ensures in
+    let all : c.loop-place.place ≤ length (fragments_of c.args.work.now.index.now c.args.tile) = rw items at c.loop-place.auto.place-end in
+    omega (arith, c.loop-place.invariant.1, mul-le-mul_left (8 * c.args.work.now.samples) all)

@@ -21,4 +21,4 @@ loop-one-preserved g c =
     let none : Swept = record { rect = record { x0 = pos 0; y0 = pos 0; x1 = pos 0; y1 = pos 0 }; sign = pos 0 } in
     RisesBy-same _ _ _ _ _
     (λ i below. sym (sum_each-more (λ swept. change_at s swept (start_at s c.args.first + i)) c.args.swept.now c.loop-one.one-index none c.loop-one-test.true))
-    (RisesBy-add _ _ _ _ _ _ c.loop-one.invariant c.add_to_tiles.ensures)
+    (RisesBy-add _ _ _ _ _ _ c.loop-one.invariant c.add_to_tiles.ensures.rises)

@@ -3,4 +3,4 @@ use Rattle.opc_base.specs.Cover.{IsPlaced}
 use Rattle.rect_union.proofs.tests.outlines_of.Given as goal
 
 abbrev pub invariant-loop-index : goal.invariant-loop-index
-invariant-loop-index l = All IsPlaced l.outlines.items
+invariant-loop-index g l = All IsPlaced l.outlines.items

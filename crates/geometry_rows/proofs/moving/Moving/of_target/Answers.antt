@@ -1,7 +1,7 @@
 use Rattle.std.proofs.Common.{◌≡◌, ℤ, pos, List, length, replicate, sym, ◌∙◌, ap, subst}
 use Rattle.outline_model.specs.Limits.{IsOffsets}
 use Rattle.outline_model.specs.Rules.{KeepsRules}
-use Rattle.geometry_rows.proofs.MovingLaws.{at_first}
+use Rattle.mask_rules.proofs.MovingLaws.{at_first}
 use Rattle.geometry_rows.proofs.moving.Moving.of_target.Goals as goal
 
 pub invariant_of-result : goal.invariant_of-result

@@ -1,6 +1,6 @@
 use Rattle.std.proofs.Common.{ℤ, ◌<◌, ◌≤ℤ◌, List, length, sym, subst, arith}
 use Rattle.outline_model.specs.Outline.{lines, low_end, high_end}
-use Rattle.geometry_rows.proofs.MovingLaws.{ends_in_order}
+use Rattle.mask_rules.proofs.MovingLaws.{ends_in_order}
 use Rattle.geometry_rows.proofs.moving.Moving.swept.Goals as goal
 
 pub swept-requires-clause-ordered : goal.swept-requires-clause-ordered

@@ -2,7 +2,7 @@ use Rattle.std.proofs.Common.{◌≡◌, ℤ, List, set, w32, to_z, of_z, SFits,
 use Rattle.std.proofs.lemmas.Int.{to_z-of_z}
 use Rattle.outline_model.specs.Limits.{IsOffsets}
 use Rattle.outline_model.specs.Rules.{KeepsRules}
-use Rattle.geometry_rows.proofs.MovingLaws.{after_move}
+use Rattle.mask_rules.proofs.MovingLaws.{after_move}
 use Rattle.geometry_rows.proofs.moving.Moving.take.Goals as goal
 
 pub invariant_of-self : goal.invariant_of-self

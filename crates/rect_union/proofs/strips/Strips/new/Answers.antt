@@ -5,8 +5,8 @@ use Rattle.rect_union.proofs.strips.Strips.new.Goals as goal
 
 pub returns : goal.returns
 returns c = record {
-  valid = λ rects placed. record {
+  valid = λ whole inside. record {
     parted = rw (c.new.ensures.items, c.new-2.ensures.items) (parted_starts _);
-    pixels = λ x y. rw (c.new.ensures.items, c.new-2.ensures.items) (starts_empty rects _ x y placed (omega (arith, ints)));
+    pixels = λ x y. rw (c.new.ensures.items, c.new-2.ensures.items) (starts_empty whole _ x y inside (omega (arith, ints)));
   };
 }

@@ -3,7 +3,7 @@ use Rattle.std.proofs.lemmas.Int.{ints}
 use Rattle.std.proofs.lemmas.List.{get_or_read}
 use Rattle.opc_base.specs.declared.plane.Rect.{Rect}
 use Rattle.tiles.specs.Index.{AreSizes}
-use Rattle.tiles.specs.Keys.{IsNear, square_at}
+use Rattle.tiles.specs.Keys.{IsSquareWithin, square_at}
 use Rattle.tiles.specs.declared.key.Square.{Square}
 use Rattle.tiles.proofs.ListedLaws.{count-seen, tile-seen}
 use Rattle.tiles.proofs.index.TileIndex.square.Goals as goal
@@ -25,9 +25,9 @@ halo-stored side halo sizes = omega (arith, ints, sizes.least_halo, sizes.most_h
 read : (squares : List Square) (tile : ℕ) (square : Square) → tile < length squares → square ≡ get_or squares tile square → square ≡ square_at squares tile
 read squares tile square below is = get_or_read squares tile square below is _
 
-near : (side : ℤ) (squares : List Square) (tile : ℕ) (square : Square) → ((k : ℕ) → k < length squares → IsNear side (square_at squares k)) →
-    tile < length squares → square ≡ get_or squares tile square → IsNear side square
-near side squares tile square all below is = subst (IsNear side) (sym (read squares tile square below is)) (all tile below)
+near : (side : ℤ) (squares : List Square) (tile : ℕ) (square : Square) → ((k : ℕ) → k < length squares → IsSquareWithin side (square_at squares k)) →
+    tile < length squares → square ≡ get_or squares tile square → IsSquareWithin side square
+near side squares tile square all below is = subst (IsSquareWithin side) (sym (read squares tile square below is)) (all tile below)
 
 pub index-square-requires : goal.index-square-requires
 index-square-requires c =

@@ -2,9 +2,11 @@ use Rattle.std.proofs.Common.{◌≡◌, ◌≢◌, ◌∙◌, ◌<◌, [], pos,
 use Rattle.std.proofs.lemmas.Int.{of_z-to_z}
 use Rattle.rect_union.specs.declared.columns.Column.{Column}
 use Rattle.rect_union.specs.declared.quadrants.Quadrant.{Quadrant}
+use Rattle.rect_union.specs.Quadrants.{is_wound}
+use Rattle.rect_union.proofs.LowerSides.{more_by_rows}
 use Rattle.rect_union.proofs.SweepLaws.{sweeping_starts, sweeping_closed, sweeping_raises, sweeping_pushes, sweeping_ends}
-use Rattle.rect_union.proofs.sweep.region_of_quadrants.Goals as goal
-use Rattle.rect_union.proofs.sweep.region_of_quadrants.Goals.{then-quadrant-bottom+in_ok-raise, else-quadrant-bottom}
+use Rattle.rect_union.proofs.sweep.region_up_to.Goals as goal
+use Rattle.rect_union.proofs.sweep.region_up_to.Goals.{then-quadrant-bottom+in_ok-raise+else-len-most, else-quadrant-bottom}
 
 pub loop-quadrant-init : goal.loop-quadrant-init
 loop-quadrant-init c =
@@ -30,7 +32,7 @@ loop-quadrant-preserved c =
     let quadrant : Quadrant = record { y = pos 0; column = column } in
     let at : c.loop-quadrant.quadrant-index < length c.args.quadrants.now = omega arith in
     elim c.if-quadrant-bottom.branch [
-      | then-quadrant-bottom+in_ok-raise w ↦
+      | then-quadrant-bottom+in_ok-raise+else-len-most w ↦
           let y_fits : SFits w32 (get_or c.args.quadrants.now c.loop-quadrant.quadrant-index quadrant).y = search rules in
           let next : (get_or c.args.quadrants.now c.loop-quadrant.quadrant-index quadrant).y ≢ to_z w32 c.loop-quadrant.bottom-bits =
           λ same. w.if-quadrant-bottom.true (ap (of_z w32) same ∙ of_z-to_z w32 c.loop-quadrant.bottom-bits (omega arith)) in
@@ -50,6 +52,21 @@ loop-quadrant-preserved c =
           (sweeping_pushes c.args.quadrants.now c.args.owners c.loop-quadrant.state c.loop-quadrant.row.items (to_z w32 c.loop-quadrant.bottom-bits)
           c.loop-quadrant.quadrant-index quadrant c.requires.order c.requires.owners c.loop-quadrant.invariant at level)
     ]
+
+pub returns-then-len-most-clause-stopped : goal.returns-then-len-most-clause-stopped
+returns-then-len-most-clause-stopped c =
+    let column : Column = record { x = pos 0; owner = 0; sign = pos 0 } in
+    let quadrant : Quadrant = record { y = pos 0; column = column } in
+    let at : c.loop-quadrant.quadrant-index < length c.args.quadrants.now = omega arith in
+    let y_fits : SFits w32 (get_or c.args.quadrants.now c.loop-quadrant.quadrant-index quadrant).y = search rules in
+    let next : (get_or c.args.quadrants.now c.loop-quadrant.quadrant-index quadrant).y ≢ to_z w32 c.loop-quadrant.bottom-bits =
+    λ same. c.if-quadrant-bottom.true (ap (of_z w32) same ∙ of_z-to_z w32 c.loop-quadrant.bottom-bits (omega arith)) in
+    let raises = rw c.deref.ensures.value at (simp to_z-of_z at c.in_ok-raise.ensures.pixels) in
+    let valid = simp to_z-of_z at c.in_ok-raise.ensures.valid in
+    let begun = sweeping_raises c.args.quadrants.now c.args.owners c.loop-quadrant.state c.raise.new.self c.loop-quadrant.row.items
+    (to_z w32 c.loop-quadrant.bottom-bits) c.loop-quadrant.quadrant-index quadrant c.requires.order c.loop-quadrant.invariant at next valid raises in
+    more_by_rows c.args.most (is_wound c.args.owners c.args.quadrants.now) c.raise.new.self.rects.items
+    (get_or c.args.quadrants.now c.loop-quadrant.quadrant-index quadrant).y (omega arith) begun.valid.stacked.canonical begun.valid.stacked.below begun.pixels
 
 pub returns-clause-pixels : goal.returns-clause-pixels
 returns-clause-pixels c =
