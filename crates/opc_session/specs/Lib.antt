@@ -1,0 +1,9 @@
+pub mod Errors
+pub mod Moves
+pub mod Rounds
+pub mod Sessions
+pub mod Kept
+pub mod Stores
+pub mod Scenes
+pub mod Fills
+pub mod Runs
