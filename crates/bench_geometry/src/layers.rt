@@ -1,12 +1,16 @@
 //! The pieces of work.
 
+ghost use Rattle.std.specs.Prelude.{pos, ◌≤ℤ◌};
+
 use crate::fault::BenchFault;
-use crate::layouts::{HIGHEST, squares, tower};
+use crate::layouts::{HIGHEST, frames, squares, squares_apart, tower};
+use assist_bars::{BarRules, bars_of};
 use geometry_rows::fault::RowFault;
 use geometry_rows::moving::{Moving, target_fragments};
 use geometry_rows::written::{out_pick, write};
 use mask_rules::check_target;
 use opc_base::{CutRules, MaskRules};
+use polygon_rows::files::polygon_file;
 use std::alloc::Global;
 
 /// Edges stay whole up to 109 pixels.
@@ -36,10 +40,15 @@ pub fn run(alloc: Global, layer: &str, count: u32) -> Result<String, BenchFault>
     match layer {
         "tower" => run_tower(alloc, count),
         "mask" => run_mask(alloc, count),
+        "frames" => run_frames(alloc, count),
+        "polygons" => run_polygons(alloc, count),
+        "tall" => run_tall(alloc, count),
         "target" => run_target(alloc, count),
         "cut" => run_cut(alloc, count, false),
         "odd" => run_cut(alloc, count, true),
         "moves" => run_moves(alloc, MOVED_SQUARES, count),
+        "apart" => run_bars(alloc, count, 11),
+        "bars" => run_bars(alloc, count, 10),
         _ => Err(BenchFault::Words),
     }
 }
@@ -47,10 +56,11 @@ pub fn run(alloc: Global, layer: &str, count: u32) -> Result<String, BenchFault>
 /// A small piece of each, and the cut at its limit.
 pub fn run_all(alloc: Global) -> Result<String, BenchFault> {
     let mask = run_mask(alloc, 100)?;
+    let polygons = run_polygons(alloc, 256)?;
     let least = run_cut(alloc, 8192, false)?;
     let most = run_cut(alloc, 8190, true)?;
     let moves = run_moves(alloc, 64, 768)?;
-    Ok(format!(in alloc; "{mask}\n{least}\n{most}\n{moves}")?)
+    Ok(format!(in alloc; "{mask}\n{polygons}\n{least}\n{most}\n{moves}")?)
 }
 
 fn run_tower(alloc: Global, count: u32) -> Result<String, BenchFault> {
@@ -64,6 +74,29 @@ fn run_mask(alloc: Global, count: u32) -> Result<String, BenchFault> {
     let file = write(alloc, &region, &out_pick(alloc, b"MASK")?, 1)?;
     let size = file.as_slice().len();
     Ok(format!(in alloc; "mask {size}")?)
+}
+
+/// What polygons are made of: frames of four rectangles.
+fn run_frames(alloc: Global, count: u32) -> Result<String, BenchFault> {
+    let region = frames(alloc, count)?;
+    let rects = region.rects().len();
+    Ok(format!(in alloc; "frames {rects}")?)
+}
+
+/// One polygon of twelve points for each frame.
+fn run_polygons(alloc: Global, count: u32) -> Result<String, BenchFault> {
+    let region = frames(alloc, count)?;
+    let file = polygon_file(alloc, &region, 1)?;
+    let size = file.as_slice().len();
+    Ok(format!(in alloc; "polygons {size}")?)
+}
+
+/// A tower is one component, with too many corners for one polygon: 64 bytes for each rectangle.
+fn run_tall(alloc: Global, count: u32) -> Result<String, BenchFault> {
+    let region = tower(alloc, count.min(HIGHEST))?;
+    let file = polygon_file(alloc, &region, 1)?;
+    let size = file.as_slice().len();
+    Ok(format!(in alloc; "tall {size}")?)
 }
 
 /// What a cut is made of: squares that keep the rules of targets.
@@ -86,6 +119,23 @@ fn run_cut(alloc: Global, count: u32, with_angle: bool) -> Result<String, BenchF
         }
         Err(fault) => Err(BenchFault::Row(fault)),
     }
+}
+
+/// The scatter bars of edges of at least this length.
+fn run_bars(alloc: Global, count: u32, min: i32) -> Result<String, BenchFault>
+    requires low { pos 10 ≤ℤ min }
+    requires high { min ≤ℤ pos 11 }
+{
+    let region = squares_apart(alloc, count)?;
+    let fragments = target_fragments(alloc, &region, &CUT, &MASK)?;
+    let numbers = BarRules {
+        gap: 4,
+        width: 2,
+        end: 1,
+        min,
+    };
+    let bars = bars_of(alloc, &region, &fragments, &MASK, &numbers)?.len();
+    Ok(format!(in alloc; "bars {bars}")?)
 }
 
 fn run_moves(alloc: Global, squares_moved: u32, count: u32) -> Result<String, BenchFault> {

@@ -1,9 +1,11 @@
 //! Work for a measurement of the geometry of masks.
 //!
-//! The words are a layer and a count: `tower` makes a region of so many rectangles and `mask` writes its mask file;
-//! `target` unites so many squares and checks them, and `cut` cuts them into fragments too; `moves` judges so many moves of
-//! the fragments of 8,192 squares. Each prints a line with numbers that are known beforehand. With no words a small piece
-//! of each is done, and the cut at its limit. `bench/geometry.py` takes the times.
+//! The words are a layer and a count: `tower` makes a region of so many rectangles, `mask` writes its mask file and `tall`
+//! the file of its polygons; `frames` unites so many sides of frames and `polygons` writes their polygons; `target` unites so
+//! many squares and checks them, and `cut` cuts them into fragments too; `bars` finds the bars of so many squares, and `apart`
+//! finds that they have none; `moves` judges so many moves of the fragments of 8,192 squares. Each prints a line with numbers
+//! that are known beforehand. With no words a small piece of each is done, and the cut at its limit. `bench/geometry.py` takes
+//! the times.
 #![tactic(auto)]
 
 mod fault;
