@@ -6,11 +6,11 @@ use Rattle.opc_base.specs.Outside.{Files, Outside, Rose, Stood}
 use Rattle.opc_cli.specs.declared.command.Command.{Command}
 use Rattle.opc_cli.specs.declared.stop.Stop.{Stop}
 use Rattle.opc_cli.specs.declared.stop.Stop.TheVariants.{Words, Read, Write, Said, Refused, NoMemory}
-use Rattle.opc_cli.specs.Command.{command_of}
+use Rattle.opc_cli.specs.Command.{command_of, reads}
 use Rattle.opc_cli.specs.Fault.{fault_line, memory_line}
-use Rattle.opc_cli.specs.Plan.{Plan, Delivery, missing, refused, answered, reads, first_missing, IsPlan, IsPlanWhere, IsPlanOf, IsAnswered, IsAnsweredAnd}
+use Rattle.opc_cli.specs.Plan.{Plan, Delivery, missing, refused, answered, first_missing, IsPlan, IsPlanWhere, IsPlanOf, IsAnswered, IsAnsweredAnd}
 use Rattle.opc_cli.specs.Stop.{status_of_plan, read_line, write_line}
-use Rattle.opc_cli.specs.Outcome.{StopsAt, IsHeld, AppendsLine, AppendsMemoryLine, SaysLine, SaysMemoryLine, HasPartOfStores, IsRefusal, CannotRead, CannotWrite, IsRefused, OutOfMemory, MustCome}
+use Rattle.opc_cli.specs.Outcome.{Done, StopsAt, IsHeld, AppendsLine, AppendsMemoryLine, SaysLine, SaysMemoryLine, HasPartOfStores, IsRefusal, CannotRead, CannotWrite, IsRefused, OutOfMemory, MustCome}
 use Rattle.opc_cli.specs.Steps.{Serves, ServeStops, StopSaid, IsUntouched, Counts}
 use Rattle.opc_cli.proofs.Agree.{plans_agree}
 use Rattle.opc_cli.proofs.Faults.{judged}
@@ -213,3 +213,7 @@ served_must_come words command before after is serves = record {
       let answer = rw told at serves in
       inl (ap status_of_plan (plans_agree command files (answered answer.delivery) plan answer.called_for called_for))));
 }
+
+-- what was served is done
+pub served_done : (words : List (List ℕ)) (command : Command) (before after : Outside) → command_of words ≡ Some command → Serves command before after → Done words before after
+served_done words command before after is serves = told_map before.files (λ files. answered_map (called_by words command files is) (λ d h. h)) serves

@@ -20,8 +20,15 @@ pub record IsJudged (fault : EngineFault) : Type 0 where
 
 pub judged : (fault : EngineFault) → IsJudged fault
 judged (engine.TooLong file) = let s = file_status file in record { at_least = s.0; at_most = omega (arith, s.1); memory = λ ten. absurd (omega (arith, s.1)) }
+judged (engine.Rules fault) = record { at_least = omega arith; at_most = omega arith; memory = λ ten. absurd (omega arith) }
 judged (engine.Kernels fault) = record { at_least = omega arith; at_most = omega arith; memory = λ ten. absurd (omega arith) }
 judged (engine.Layout fault) = record { at_least = omega arith; at_most = omega arith; memory = λ ten. absurd (omega arith) }
 judged (engine.Place fault) = record { at_least = omega arith; at_most = omega arith; memory = λ ten. absurd (omega arith) }
 judged engine.TooManyCorners = record { at_least = omega arith; at_most = omega arith; memory = λ ten. absurd (omega arith) }
+judged (engine.Target broken) = record { at_least = omega arith; at_most = omega arith; memory = λ ten. absurd (omega arith) }
+judged (engine.TooManyFragments count) = record { at_least = omega arith; at_most = omega arith; memory = λ ten. absurd (omega arith) }
+judged (engine.BadBars key) = record { at_least = omega arith; at_most = omega arith; memory = λ ten. absurd (omega arith) }
+judged (engine.TooWide pixels) = record { at_least = omega arith; at_most = omega arith; memory = λ ten. absurd (omega arith) }
+judged (engine.Moves fault) = record { at_least = omega arith; at_most = omega arith; memory = λ ten. absurd (omega arith) }
+judged (engine.NoFragment line) = record { at_least = omega arith; at_most = omega arith; memory = λ ten. absurd (omega arith) }
 judged engine.NoMemory = record { at_least = omega arith; at_most = omega arith; memory = λ _. refl }

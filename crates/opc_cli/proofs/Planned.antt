@@ -1,44 +1,38 @@
 -- What a command calls for, once its files are loaded.
-use Rattle.std.proofs.Common.{◌≡◌, ◌⊎◌, ℕ, ◌+◌, ◌<◌, lit<, List, [], take, false, refl, Option, Some, None, ℤ, inl, inr}
-use Rattle.std.specs.Prelude.{IfSome, is_none, unwrap_or}
+use Rattle.std.proofs.Common.{◌≡◌, ◌⊎◌, ℕ, ◌+◌, ◌<◌, lit<, List, [], ◌∷◌, map, take, Bool, true, false, cond, refl, ap, sym, ◌∙◌, subst, Option, Some, None, inl, inr}
+use Rattle.std.specs.Prelude.{IfErr, IfOk, IfSome, is_none, unwrap_or, Result, Ok, Err}
 use Rattle.std.specs.Option.{option_map}
 use Rattle.std.specs.FinMap.{get}
-use Rattle.opc_base.specs.Outside.{Outside, Files, Loads}
-use Rattle.opc_engine.specs.Probe.{IsProbeAnswer, IsProbeRefusal}
-use Rattle.opc_engine.specs.declared.ask.Ask.{Ask}
+use Rattle.opc_base.specs.Outside.{Outside, Files}
+use Rattle.opc_engine.specs.Assists.{AssistGives}
+use Rattle.opc_engine.specs.Checks.{CheckGives}
+use Rattle.opc_engine.specs.Corrections.{CorrectGives, MovesGives, SimulateGives}
+use Rattle.opc_engine.specs.PolygonMasks.{PolygonsGives}
+use Rattle.opc_engine.specs.Probe.{ProbeGives}
+use Rattle.opc_engine.specs.declared.ask.Which.{Which}
 use Rattle.opc_engine.specs.declared.ask.Which.TheVariants as which
 use Rattle.opc_engine.specs.declared.fault.EngineFault.{EngineFault}
 use Rattle.opc_engine.specs.declared.fault.EngineFault.TheVariants as engine
-use Rattle.opc_engine.specs.declared.limits.TheConstants.{MAX_LAYOUT, MAX_KERNELS}
-use Rattle.opc_engine.proofs.ProbeLaws.{answer_of_cut, refusal_of_cut}
+use Rattle.opc_engine.specs.declared.limits.TheConstants.{MAX_LAYOUT, MAX_KERNELS, MAX_MOVES, MAX_RULES}
+use Rattle.opc_engine.proofs.AssistLaws.{assist_of_cut}
+use Rattle.opc_engine.proofs.CheckLaws.{check_of_cut}
+use Rattle.opc_engine.proofs.CorrectionLaws.{simulate_of_cut}
+use Rattle.opc_engine.proofs.MaskLaws.{correct_of_cut, moves_of_cut}
+use Rattle.opc_engine.proofs.PolygonLaws.{polygons_of_cut}
+use Rattle.opc_engine.proofs.ProbeLaws.{result_of_cut}
 use Rattle.opc_cli.specs.declared.answer.Answer.{Answer}
 use Rattle.opc_cli.specs.declared.command.Command.{Command}
-use Rattle.opc_cli.specs.declared.command.Command.TheVariants.{Probe}
-use Rattle.opc_cli.specs.Plan.{Plan, no_command, missing, refused, answered, IsProbed, IsPlanOf, bytes_in, intensity_line}
+use Rattle.opc_cli.specs.declared.command.Command.TheVariants.{Probe, Simulate, Correct, Moves, Check, Polygons, Trial, Assist}
+use Rattle.opc_cli.specs.Command.{bar_rules, files_of, reads}
+use Rattle.opc_cli.specs.Plan.{Delivered, Delivery, Plan, no_command, missing, refused, answered, IsPlanBy, IsPlanOf, IsPlanWhere, IsVerdict, both_stored, bytes_in, first_missing, intensity_said, table_stored}
 use Rattle.opc_cli.specs.Limit.{limit_of}
-use Rattle.opc_cli.specs.Steps.{CommandStops, delivery_of}
+use Rattle.opc_cli.specs.Sources.{AreLoaded, IsLoaded}
+use Rattle.opc_cli.specs.Steps.{Answers, CommandStops, delivery_of}
 use Rattle.opc_cli.specs.FaultStop.{stop_of}
+use Rattle.opc_cli.specs.declared.stop.Stop.{Stop}
+use Rattle.opc_cli.specs.declared.stop.Stop.TheVariants.{NoMemory}
 
--- a file that was loaded as far as n bytes
-abbrev pub IsLoaded : Option Files → ℕ → List ℕ → List ℕ → Type 0
-IsLoaded told n name bytes = IfSome told (λ files. option_map (take n) (get files name) ≡ Some bytes)
-
--- its bytes are those of the file in the map, which is there
-held : (found : Option (List ℕ)) (n : ℕ) (bytes : List ℕ) → option_map (take n) found ≡ Some bytes → (is_none found ≡ false) × (take n (unwrap_or found []) ≡ bytes)
-held None n bytes e = cc
-held (Some whole) n bytes e = (refl, cc)
-
--- a fault of the engine stops a command as its plan says
-stops_of_fault : (command : Command) (before after : Outside) (fault : EngineFault) → (fault ≡ engine.NoMemory) ⊎ IfSome before.files (λ files. IsPlanOf command files (refused fault)) → CommandStops command before after (stop_of fault)
-stops_of_fault command before after engine.NoMemory why = tt
-stops_of_fault command before after fault why = elim why [ inl e ↦ cc | inr planned ↦ planned ]
-
--- what the bytes as cut past the limits call for, the whole files call for
-probed_of_cut : (layout kernels : List ℕ) (ask : Ask) (m n : ℕ) → MAX_LAYOUT < m → MAX_KERNELS < n → (plan : Plan) → IsProbed (take m layout) (take n kernels) ask plan → IsProbed layout kernels ask plan
-probed_of_cut layout kernels ask m n past past' no_command h = h
-probed_of_cut layout kernels ask m n past past' (missing name) h = h
-probed_of_cut layout kernels ask m n past past' (refused fault) h = refusal_of_cut layout kernels ask m n fault past past' h
-probed_of_cut layout kernels ask m n past past' (answered delivery) h = (h.0, (answer_of_cut layout kernels ask m n h.0 past past' h.1.0, h.1.1))
+-- ---- files that are cut one byte past the limit of their kind
 
 past_layout : MAX_LAYOUT < limit_of which.Layout + 1
 unfolding limit_of
@@ -48,38 +42,132 @@ past_kernels : MAX_KERNELS < limit_of which.Kernels + 1
 unfolding limit_of
 past_kernels = lit< tt
 
-module _ (m n : ℕ) (past : MAX_LAYOUT < m) (past' : MAX_KERNELS < n) (layout kernels : List ℕ) (ask : Ask) (a b : List ℕ) (plan : Plan) (probed : IsProbed a b ask plan) where
-  probe_in : (files : Files) → option_map (take m) (get files layout) ≡ Some a → option_map (take n) (get files kernels) ≡ Some b → IsPlanOf (Probe layout kernels ask) files plan
-  probe_in files is_a is_b =
-      let l = held (get files layout) m a is_a in
-      let k = held (get files kernels) n b is_b in
-      rw (l.0, k.0) (probed_of_cut (bytes_in files layout) (bytes_in files kernels) ask m n past past' plan (rw (l.1, k.1) probed))
+past_moves : MAX_MOVES < limit_of which.Moves + 1
+unfolding limit_of
+past_moves = lit< tt
 
-  probe_plan : (before mid : Outside) → Loads before mid → IsLoaded before.files m layout a → IsLoaded mid.files n kernels b → IfSome before.files (λ files. IsPlanOf (Probe layout kernels ask) files plan)
-  probe_plan before mid loads is_a is_b =
-      let is_b' : IsLoaded before.files n kernels b = rw (loads.files) at is_b in
-      elim before.files as (λ told. IsLoaded told m layout a → IsLoaded told n kernels b → IfSome told (λ files. IsPlanOf (Probe layout kernels ask) files plan)) [
-        | None ↦ λ _ _. tt
-        | Some files ↦ λ is_a is_b. probe_in files is_a is_b
-      ] is_a is_b'
+past_rules : MAX_RULES < limit_of which.Rules + 1
+unfolding limit_of
+past_rules = lit< tt
 
--- the layout and the kernel file were loaded
-pub record AreLoaded (before mid : Outside) (layout kernels a b : List ℕ) : Type 0 where
-  pub loads : Loads before mid
-  pub layout_is : IsLoaded before.files (limit_of which.Layout + 1) layout a
-  pub kernels_are : IsLoaded mid.files (limit_of which.Kernels + 1) kernels b
+abbrev cut : Files → Which × List ℕ → List ℕ
+cut files file = take (limit_of file.0 + 1) (bytes_in files file.1)
 
-planned : (before mid : Outside) (layout kernels : List ℕ) (ask : Ask) (a b : List ℕ) (plan : Plan) → AreLoaded before mid layout kernels a b → IsProbed a b ask plan → IfSome before.files (λ files. IsPlanOf (Probe layout kernels ask) files plan)
-planned before mid layout kernels ask a b plan loaded probed =
-    probe_plan (limit_of which.Layout + 1) (limit_of which.Kernels + 1) past_layout past_kernels layout kernels ask a b plan probed before mid loaded.loads loaded.layout_is loaded.kernels_are
+-- what is given for some bytes is given for others that give as much
+delivered_map : {A : Type 0} (delivered : A → Delivery) (gives gives' : Result A EngineFault → Type 0) → ((r : Result A EngineFault) → gives r → gives' r)
+    → (r : Result Delivery EngineFault) → Delivered delivered gives r → Delivered delivered gives' r
+delivered_map delivered gives gives' f (Err fault) h = f (Err fault) h
+delivered_map delivered gives gives' f (Ok delivery) h = (h.0, (f (Ok h.0) h.1.0, h.1.1))
 
-pub probe_answers : (before mid : Outside) (layout kernels : List ℕ) (ask : Ask) (a b : List ℕ) (n : ℤ) (answer : Answer) → AreLoaded before mid layout kernels a b → IsProbeAnswer a b ask n → answer.outputs.items ≡ [] → answer.line ≡ intensity_line n → IfSome before.files (λ files. IsPlanOf (Probe layout kernels ask) files (answered (delivery_of answer)))
-probe_answers before mid layout kernels ask a b n answer loaded is none line =
-    planned before mid layout kernels ask a b (answered (delivery_of answer)) loaded (n, (is, rw (none, line) refl))
+-- the verdict by files that are cut is the verdict by the whole files
+verdict_of_cut : (command : Command) (files : Files) (r : Result Delivery EngineFault) → IsVerdict command (map (cut files) (files_of command)) r
+    → IsVerdict command (map (bytes_in files) (reads command)) r
+verdict_of_cut (Probe layout kernels ask) files =
+    delivered_map intensity_said (ProbeGives (cut files (which.Layout, layout)) (cut files (which.Kernels, kernels)) ask)
+    (ProbeGives (bytes_in files layout) (bytes_in files kernels) ask)
+    (λ r. result_of_cut (bytes_in files layout) (bytes_in files kernels) ask (limit_of which.Layout + 1) (limit_of which.Kernels + 1) r past_layout past_kernels)
+verdict_of_cut (Simulate layout kernels rules table) files =
+    delivered_map (table_stored table) (SimulateGives (cut files (which.Layout, layout)) (cut files (which.Kernels, kernels)) (cut files (which.Rules, rules)))
+    (SimulateGives (bytes_in files layout) (bytes_in files kernels) (bytes_in files rules))
+    (simulate_of_cut (bytes_in files layout) (bytes_in files kernels) (bytes_in files rules) (limit_of which.Layout + 1) (limit_of which.Kernels + 1) (limit_of which.Rules + 1) past_layout past_kernels past_rules)
+verdict_of_cut (Correct layout kernels rules mask table) files =
+    delivered_map (both_stored mask table) (CorrectGives (cut files (which.Layout, layout)) (cut files (which.Kernels, kernels)) (cut files (which.Rules, rules)))
+    (CorrectGives (bytes_in files layout) (bytes_in files kernels) (bytes_in files rules))
+    (correct_of_cut (bytes_in files layout) (bytes_in files kernels) (bytes_in files rules) (limit_of which.Layout + 1) (limit_of which.Kernels + 1) (limit_of which.Rules + 1) past_layout past_kernels past_rules)
+verdict_of_cut (Polygons layout kernels rules mask table) files =
+    delivered_map (both_stored mask table) (PolygonsGives (cut files (which.Layout, layout)) (cut files (which.Kernels, kernels)) (cut files (which.Rules, rules)))
+    (PolygonsGives (bytes_in files layout) (bytes_in files kernels) (bytes_in files rules))
+    (polygons_of_cut (bytes_in files layout) (bytes_in files kernels) (bytes_in files rules) (limit_of which.Layout + 1) (limit_of which.Kernels + 1) (limit_of which.Rules + 1) past_layout past_kernels past_rules)
+verdict_of_cut (Moves layout kernels rules moves mask table) files =
+    delivered_map (both_stored mask table)
+    (MovesGives (cut files (which.Layout, layout)) (cut files (which.Kernels, kernels)) (cut files (which.Rules, rules)) (cut files (which.Moves, moves)))
+    (MovesGives (bytes_in files layout) (bytes_in files kernels) (bytes_in files rules) (bytes_in files moves))
+    (moves_of_cut (bytes_in files layout) (bytes_in files kernels) (bytes_in files rules) (limit_of which.Layout + 1) (limit_of which.Kernels + 1) (limit_of which.Rules + 1) past_layout past_kernels past_rules
+    (bytes_in files moves) (limit_of which.Moves + 1) past_moves)
+verdict_of_cut (Check layout kernels rules printed list) files =
+    delivered_map (both_stored printed list) (CheckGives (cut files (which.Layout, layout)) (cut files (which.Kernels, kernels)) (cut files (which.Rules, rules)))
+    (CheckGives (bytes_in files layout) (bytes_in files kernels) (bytes_in files rules))
+    (check_of_cut (bytes_in files layout) (bytes_in files kernels) (bytes_in files rules) (limit_of which.Layout + 1) (limit_of which.Kernels + 1) (limit_of which.Rules + 1) past_layout past_kernels past_rules)
+verdict_of_cut (Trial n) files = λ r h. h
+verdict_of_cut (Assist layout kernels rules mask table gap width end min) files =
+    delivered_map (both_stored mask table)
+    (AssistGives (cut files (which.Layout, layout)) (cut files (which.Kernels, kernels)) (cut files (which.Rules, rules)) (bar_rules gap width end min))
+    (AssistGives (bytes_in files layout) (bytes_in files kernels) (bytes_in files rules) (bar_rules gap width end min))
+    (assist_of_cut (bytes_in files layout) (bytes_in files kernels) (bytes_in files rules) (bar_rules gap width end min) (limit_of which.Layout + 1) (limit_of which.Kernels + 1) (limit_of which.Rules + 1)
+    past_layout past_kernels past_rules)
 
-pub probe_stops : (before mid after : Outside) (layout kernels : List ℕ) (ask : Ask) (a b : List ℕ) (fault : EngineFault) → AreLoaded before mid layout kernels a b → (fault ≡ engine.NoMemory) ⊎ IsProbeRefusal a b ask fault → CommandStops (Probe layout kernels ask) before after (stop_of fault)
-probe_stops before mid after layout kernels ask a b fault loaded why =
-    stops_of_fault (Probe layout kernels ask) before after fault (elim why [
-      | inl e ↦ inl e
-      | inr is ↦ inr (planned before mid layout kernels ask a b (refused fault) loaded is)
-    ])
+-- ---- files that were loaded
+
+-- the bytes of a file that was loaded are those of the file in the map, which is there
+held : (found : Option (List ℕ)) (n : ℕ) (bytes : List ℕ) → option_map (take n) found ≡ Some bytes → (is_none found ≡ false) × (take n (unwrap_or found []) ≡ bytes)
+held None n bytes e = cc
+held (Some whole) n bytes e = (refl, cc)
+
+-- files that were loaded are there
+none_missing : (files : Files) (sources : List (Which × List ℕ)) (bytes : List (List ℕ)) → AreLoaded (Some files) sources bytes
+    → first_missing files (map (λ file. file.1) sources) ≡ None
+none_missing files [] [] loaded = refl
+none_missing files [] (b ∷ bytes) loaded = absurd loaded
+none_missing files (s ∷ sources) [] loaded = absurd loaded
+none_missing files (s ∷ sources) (b ∷ bytes) loaded =
+    ap (λ t. cond t (Some s.1) (first_missing files (map (λ file. file.1) sources))) (held (get files s.1) (limit_of s.0 + 1) b loaded.0).0
+    ∙ none_missing files sources bytes loaded.1
+
+-- and their bytes are those of the files, cut
+loaded_cut : (files : Files) (sources : List (Which × List ℕ)) (bytes : List (List ℕ)) → AreLoaded (Some files) sources bytes
+    → map (cut files) sources ≡ bytes
+loaded_cut files [] [] loaded = refl
+loaded_cut files [] (b ∷ bytes) loaded = absurd loaded
+loaded_cut files (s ∷ sources) [] loaded = absurd loaded
+loaded_cut files (s ∷ sources) (b ∷ bytes) loaded =
+    ap (λ c. c ∷ map (cut files) sources) (held (get files s.1) (limit_of s.0 + 1) b loaded.0).1
+    ∙ ap (λ more. b ∷ more) (loaded_cut files sources bytes loaded.1)
+
+abbrev plan_of : Result Delivery EngineFault → Plan
+plan_of (Ok delivery) = answered delivery
+plan_of (Err fault) = refused fault
+
+plan_by : (verdict : Result Delivery EngineFault → Type 0) (r : Result Delivery EngineFault) → verdict r → IsPlanBy verdict (plan_of r)
+plan_by verdict (Ok delivery) h = h
+plan_by verdict (Err fault) h = h
+
+-- a fault of the engine stops a command as its plan says, or is want of memory
+stops_of_fault : (command : Command) (before after : Outside) (fault : EngineFault) → (fault ≡ engine.NoMemory) ⊎ IfSome before.files (λ files. IsPlanOf command files (refused fault)) → CommandStops command before after (stop_of fault)
+stops_of_fault command before after engine.NoMemory why = tt
+stops_of_fault command before after fault why = elim why [ inl e ↦ cc | inr planned ↦ planned ]
+
+module _ (command : Command) (bytes : List (List ℕ)) where
+  -- the verdict by the bytes that were loaded is the plan
+  planned : (told : Option Files) (r : Result Delivery EngineFault) → AreLoaded told (files_of command) bytes → IsVerdict command bytes r
+      → IfSome told (λ files. IsPlanOf command files (plan_of r))
+  planned None r loaded verdict = tt
+  planned (Some files) r loaded verdict =
+      let P : List (List ℕ) → Type 0 = λ b. IsVerdict command b r in
+      let Q : Option (List ℕ) → Type 0 = λ first. IsPlanWhere first command files (plan_of r) in
+      subst Q (sym (none_missing files (files_of command) bytes loaded))
+      (plan_by (IsVerdict command (map (bytes_in files) (reads command))) r
+      (verdict_of_cut command files r (subst P (sym (loaded_cut files (files_of command) bytes loaded)) verdict)))
+
+  -- an answer that is delivered as the verdict says
+  pub answers : (before : Outside) (delivery : Delivery) (answer : Answer) → AreLoaded before.files (files_of command) bytes → IsVerdict command bytes (Ok delivery)
+      → delivery_of answer ≡ delivery → Answers command before answer
+  answers before delivery answer loaded verdict same =
+      let P : Delivery → Type 0 = λ d. IfSome before.files (λ files. IsPlanOf command files (answered d)) in
+      subst P (sym same) (planned before.files (Ok delivery) loaded verdict)
+
+  pub ends : (before : Outside) (delivery : Delivery) (result : Result Answer Stop) → AreLoaded before.files (files_of command) bytes
+      → IsVerdict command bytes (Ok delivery) → IfOk result (λ answer. delivery_of answer ≡ delivery) → IfOk result (Answers command before)
+  ends before delivery (Ok answer) loaded verdict same = answers before delivery answer loaded verdict same
+  ends before delivery (Err stop) loaded verdict same = tt
+
+  -- a refusal of the engine stops a command as its plan says
+  pub stops : (before after : Outside) (fault : EngineFault) → AreLoaded before.files (files_of command) bytes
+      → (fault ≡ engine.NoMemory) ⊎ IsVerdict command bytes (Err fault) → CommandStops command before after (stop_of fault)
+  stops before after fault loaded (inl none) = stops_of_fault command before after fault (inl none)
+  stops before after fault loaded (inr verdict) = stops_of_fault command before after fault (inr (planned before.files (Err fault) loaded verdict))
+
+-- where the answer could not be made, memory ran out
+pub ends_without_memory : (command : Command) (before after : Outside) (result : Result Answer Stop) → IfErr result (λ stop. stop ≡ NoMemory)
+    → IfErr result (CommandStops command before after)
+ends_without_memory command before after (Ok answer) is = tt
+ends_without_memory command before after (Err stop) is = rw is tt

@@ -6,3 +6,5 @@ pub mod Stop
 pub mod FaultStop
 pub mod Steps
 pub mod Outcome
+pub mod Sources
+pub mod NewNames

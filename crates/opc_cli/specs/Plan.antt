@@ -1,14 +1,19 @@
 -- What the words and the files call for, where nothing fails.
-use Rattle.std.specs.Prelude.{◌≡◌, ℕ, List, [], ◌∷◌, ◌++◌, codes, find, is_none, unwrap_or, Option, Some, None, ℤ}
+use Rattle.std.specs.Prelude.{◌≡◌, ℕ, List, [], ◌∷◌, ◌++◌, codes, map, find, is_none, unwrap_or, Option, Some, None, Result, Ok, Err, ℤ}
 use Rattle.std.specs.Fmt.{signed_decimal}
 use Rattle.std.specs.FinMap.{get, insert}
 use Rattle.opc_base.specs.Outside.{Files}
-use Rattle.opc_engine.specs.Probe.{IsProbeAnswer, IsProbeRefusal}
-use Rattle.opc_engine.specs.declared.ask.Ask.{Ask}
+use Rattle.opc_engine.specs.Assists.{AssistGives}
+use Rattle.opc_engine.specs.Checks.{CheckGives}
+use Rattle.opc_engine.specs.Corrections.{CorrectGives, MovesGives, SimulateGives}
+use Rattle.opc_engine.specs.PolygonMasks.{PolygonsGives}
+use Rattle.opc_engine.specs.Probe.{ProbeGives}
+use Rattle.opc_engine.specs.Trial.{TrialGives}
+use Rattle.opc_engine.specs.declared.answer.Answer.{Answer}
 use Rattle.opc_engine.specs.declared.fault.EngineFault.{EngineFault}
-use Rattle.opc_cli.specs.Command.{command_of}
+use Rattle.opc_cli.specs.Command.{bar_rules, command_of, reads}
 use Rattle.opc_cli.specs.declared.command.Command.{Command}
-use Rattle.opc_cli.specs.declared.command.Command.TheVariants.{Probe}
+use Rattle.opc_cli.specs.declared.command.Command.TheVariants.{Probe, Simulate, Correct, Moves, Check, Polygons, Trial, Assist}
 
 -- what is stored under which name, in order, and what is said then
 pub record Delivery : Type 0 where
@@ -22,10 +27,6 @@ pub data Plan : Type 0 where
   refused : EngineFault → Plan
   answered : Delivery → Plan
 
--- the names that a command reads, in the order of its loads
-abbrev pub reads : Command → List (List ℕ)
-reads (Probe layout kernels ask) = layout ∷ kernels ∷ []
-
 -- the answer of `probe`
 abbrev pub intensity_line : ℤ → List ℕ
 intensity_line n = codes "intensity " ++ signed_decimal n ++ 10 ∷ []
@@ -34,17 +35,44 @@ intensity_line n = codes "intensity " ++ signed_decimal n ++ 10 ∷ []
 abbrev pub intensity_said : ℤ → Delivery
 intensity_said n = record { stores = []; line = intensity_line n }
 
--- what `probe` calls for, by the bytes of its files
-abbrev pub IsProbed : List ℕ → List ℕ → Ask → Plan → Type 0
-IsProbed layout kernels ask no_command = ⊥
-IsProbed layout kernels ask (missing name) = ⊥
-IsProbed layout kernels ask (refused fault) = IsProbeRefusal layout kernels ask fault
-IsProbed layout kernels ask (answered delivery) =
-    (n : ℤ) × (IsProbeAnswer layout kernels ask n × (delivery ≡ intensity_said n))
+-- `simulate` stores its table and says the table's last line
+abbrev pub table_stored : List ℕ → Answer → Delivery
+table_stored table answer = record { stores = (table, answer.table) ∷ []; line = answer.line }
 
--- what a command calls for, by the bytes of its files
-abbrev pub IsVerdict : Command → (List ℕ → List ℕ) → Plan → Type 0
-IsVerdict (Probe layout kernels ask) bytes_of plan = IsProbed (bytes_of layout) (bytes_of kernels) ask plan
+-- `correct`, `polygons`, `moves` and `assist` store the mask file before the table, and `check` the printed image before the list; they
+-- say the last line of the second
+abbrev pub both_stored : List ℕ → List ℕ → Answer → Delivery
+both_stored mask table answer = record { stores = (mask, answer.mask) ∷ (table, answer.table) ∷ []; line = answer.line }
+
+-- `trial` stores nothing and says its line
+abbrev pub line_said : Answer → Delivery
+line_said answer = record { stores = []; line = answer.line }
+
+-- what is given is delivered in this way, or there is a refusal
+abbrev pub Delivered : {A : Type 0} → (A → Delivery) → (Result A EngineFault → Type 0) → Result Delivery EngineFault → Type 0
+Delivered delivered gives (Err fault) = gives (Err fault)
+Delivered {A = A} delivered gives (Ok delivery) = (given : A) × (gives (Ok given) × (delivery ≡ delivered given))
+
+-- what a command calls for, by the bytes of the files that it reads, in their order
+abbrev pub IsVerdict : Command → List (List ℕ) → Result Delivery EngineFault → Type 0
+IsVerdict (Probe _ _ ask) (layout ∷ kernels ∷ []) = Delivered intensity_said (ProbeGives layout kernels ask)
+IsVerdict (Simulate _ _ _ table) (layout ∷ kernels ∷ rules ∷ []) = Delivered (table_stored table) (SimulateGives layout kernels rules)
+IsVerdict (Correct _ _ _ mask table) (layout ∷ kernels ∷ rules ∷ []) = Delivered (both_stored mask table) (CorrectGives layout kernels rules)
+IsVerdict (Polygons _ _ _ mask table) (layout ∷ kernels ∷ rules ∷ []) = Delivered (both_stored mask table) (PolygonsGives layout kernels rules)
+IsVerdict (Moves _ _ _ _ mask table) (layout ∷ kernels ∷ rules ∷ moves ∷ []) =
+    Delivered (both_stored mask table) (MovesGives layout kernels rules moves)
+IsVerdict (Check _ _ _ printed list) (layout ∷ kernels ∷ rules ∷ []) = Delivered (both_stored printed list) (CheckGives layout kernels rules)
+IsVerdict (Trial n) [] = Delivered line_said (TrialGives n)
+IsVerdict (Assist _ _ _ mask table gap width end min) (layout ∷ kernels ∷ rules ∷ []) =
+    Delivered (both_stored mask table) (AssistGives layout kernels rules (bar_rules gap width end min))
+IsVerdict _ _ = λ _. ⊥
+
+-- the plan of a verdict
+abbrev pub IsPlanBy : (Result Delivery EngineFault → Type 0) → Plan → Type 0
+IsPlanBy verdict no_command = ⊥
+IsPlanBy verdict (missing name) = ⊥
+IsPlanBy verdict (refused fault) = verdict (Err fault)
+IsPlanBy verdict (answered delivery) = verdict (Ok delivery)
 
 -- the bytes of a file that is held
 abbrev pub bytes_in : Files → List ℕ → List ℕ
@@ -57,7 +85,7 @@ first_missing files names = find (λ name. is_none (get files name)) names
 -- the plan where this name is the first that is missing, or none is
 abbrev pub IsPlanWhere : Option (List ℕ) → Command → Files → Plan → Type 0
 IsPlanWhere (Some name) command files plan = plan ≡ missing name
-IsPlanWhere None command files plan = IsVerdict command (bytes_in files) plan
+IsPlanWhere None command files plan = IsPlanBy (IsVerdict command (map (bytes_in files) (reads command))) plan
 
 abbrev pub IsPlanOf : Command → Files → Plan → Type 0
 IsPlanOf command files plan = IsPlanWhere (first_missing files (reads command)) command files plan

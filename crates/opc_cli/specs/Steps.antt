@@ -6,7 +6,8 @@ use Rattle.opc_cli.specs.declared.stop.Stop.TheVariants.{Words, Read, Write, Sai
 use Rattle.opc_cli.specs.declared.command.Command.{Command}
 use Rattle.opc_cli.specs.declared.answer.Answer.{Answer}
 use Rattle.opc_cli.specs.declared.answer.Output.{Output}
-use Rattle.opc_cli.specs.Plan.{Delivery, IsAnsweredAnd, IsPlanOf, refused, reads, with_stores}
+use Rattle.opc_cli.specs.Command.{reads}
+use Rattle.opc_cli.specs.Plan.{Delivery, IsAnsweredAnd, IsPlanOf, answered, refused, with_stores}
 use Rattle.opc_cli.specs.Stop.{status_of, line_of}
 use Rattle.opc_cli.specs.Outcome.{IsMissing, StopsAt, StoresStopAt, HasFirstStores, SaysLine, SaysMemoryLine}
 
@@ -22,6 +23,16 @@ abbrev pub LoadStops : List ℕ → Outside → Outside → Stop → Type 0
 LoadStops name before after (Read at) = (at.now ≡ name) × (Rose before.load_faults after.load_faults ⊎ IsMissing before.files name)
 LoadStops name before after NoMemory = Unit {0}
 LoadStops name before after _ = ⊥
+
+-- one of the loads of these names stopped
+abbrev pub LoadsStop : List (List ℕ) → Outside → Outside → Stop → Type 0
+LoadsStop names before after (Read at) = StopsAt before.files (Rose before.load_faults after.load_faults) names at.now
+LoadsStop names before after NoMemory = Unit {0}
+LoadsStop names before after _ = ⊥
+
+-- the files call for this answer of a command
+abbrev pub Answers : Command → Outside → Answer → Type 0
+Answers command before answer = IfSome before.files (λ files. IsPlanOf command files (answered (delivery_of answer)))
 
 -- a command stopped before its answer was there
 abbrev pub CommandStops : Command → Outside → Outside → Stop → Type 0

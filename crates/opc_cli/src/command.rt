@@ -15,6 +15,62 @@ pub enum Command {
         kernels: Text,
         ask: Ask,
     },
+    /// Stores the error table of a target of which no fragment has moved.
+    Simulate {
+        layout: Text,
+        kernels: Text,
+        rules: Text,
+        table: Text,
+    },
+    /// Stores the mask file and the error table after a run of rounds.
+    Correct {
+        layout: Text,
+        kernels: Text,
+        rules: Text,
+        mask: Text,
+        table: Text,
+    },
+    /// Stores the mask file, with a polygon for each component, and the error table after a run of rounds.
+    Polygons {
+        layout: Text,
+        kernels: Text,
+        rules: Text,
+        mask: Text,
+        table: Text,
+    },
+    /// Stores the mask file and the error table after the moves of a moves file.
+    Moves {
+        layout: Text,
+        kernels: Text,
+        rules: Text,
+        moves: Text,
+        mask: Text,
+        table: Text,
+    },
+    /// Stores the printed image of the mask after a run of rounds, and the list of its flaws.
+    Check {
+        layout: Text,
+        kernels: Text,
+        rules: Text,
+        printed: Text,
+        list: Text,
+    },
+    /// Stores the mask file and the table of a correction with scatter bars, whose four numbers are in pixels.
+    Assist {
+        layout: Text,
+        kernels: Text,
+        rules: Text,
+        mask: Text,
+        table: Text,
+        gap: i32,
+        width: i32,
+        end: i32,
+        min: i32,
+    },
+    /// Says what a correction of a made input came to; `n` is 1 to 64.
+    Trial {
+        n: u32,
+    },
 }
 
 /// Why there is no command: the words have none, or memory ran out.

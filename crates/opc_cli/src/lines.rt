@@ -1,14 +1,16 @@
 //! The lines that are said.
 ghost use Rattle.std.specs.Prelude.{◌≡◌, IfOk, string_bytes};
+ghost use Rattle.error_table.specs.Table.{rule_name};
 ghost use Rattle.opc_cli.specs.Plan.{intensity_line};
-ghost use Rattle.opc_cli.specs.Fault.{which_text, kernels_text, layout_text, place_text, fault_line};
+ghost use Rattle.opc_cli.specs.Fault.{bar_text, which_text, rules_text, kernels_text, layout_text, place_text, moves_text, fault_line};
 ghost use Rattle.opc_cli.specs.Stop.{line_of};
 
 use crate::stop::Stop;
 use gds_model::{LayoutFault, PlaceFault};
 use kernel_file::KernelFault;
-use opc_base::{Bytes, NoMemory};
-use opc_engine::{EngineFault, Which};
+use opc_base::{Broken, Bytes, NoMemory, Pix, Place, RuleName};
+use opc_engine::{BarKey, EngineFault, Which};
+use rule_file::{MoveFault, RuleFault};
 use std::alloc::Global;
 
 /// Said of want of memory, from bytes that are there from the start.
@@ -34,7 +36,7 @@ fn which_text(which: Which) -> &'static str
     }
 }
 
-/// What a line says of a kernel file.
+/// What a line says of a kernel file. A wrapped fault is never want of memory, so that has no text here or below.
 fn kernels_text(alloc: Global, fault: &KernelFault) -> Result<String, NoMemory>
     ensures { IfOk result (λ text. string_bytes text ≡ kernels_text fault.now) }
 {
@@ -49,7 +51,7 @@ fn kernels_text(alloc: Global, fault: &KernelFault) -> Result<String, NoMemory>
         KernelFault::BadWeight { kernel } => format!(in alloc; "bad weight of kernel {kernel}")?,
         KernelFault::BadEntry { offset } => format!(in alloc; "bad entry at {offset}")?,
         KernelFault::WeightSum => String::from_str(alloc, "weights sum")?,
-        KernelFault::NoMemory => String::from_str(alloc, "out of memory")?,
+        KernelFault::NoMemory => return Err(NoMemory),
     };
     Ok(text)
 }
@@ -75,7 +77,7 @@ fn layout_text(alloc: Global, fault: &LayoutFault) -> Result<String, NoMemory>
         LayoutFault::BadBody { offset } => format!(in alloc; "bad body at {offset}")?,
         LayoutFault::Duplicate { offset } => format!(in alloc; "duplicate name at {offset}")?,
         LayoutFault::Trailing { offset } => format!(in alloc; "trailing byte at {offset}")?,
-        LayoutFault::NoMemory => String::from_str(alloc, "out of memory")?,
+        LayoutFault::NoMemory => return Err(NoMemory),
     };
     Ok(text)
 }
@@ -99,9 +101,90 @@ fn place_text(alloc: Global, fault: &PlaceFault) -> Result<String, NoMemory>
         PlaceFault::RoundPath { offset } => format!(in alloc; "path ends at {offset}")?,
         PlaceFault::OffGrid { offset } => format!(in alloc; "off grid at {offset}")?,
         PlaceFault::OutOfRange { offset } => format!(in alloc; "out of range at {offset}")?,
-        PlaceFault::NoMemory => String::from_str(alloc, "out of memory")?,
+        PlaceFault::NoMemory => return Err(NoMemory),
     };
     Ok(text)
+}
+
+/// What a line says of a rule file.
+fn rules_text(alloc: Global, fault: &RuleFault) -> Result<String, NoMemory>
+    ensures { IfOk result (λ text. string_bytes text ≡ rules_text fault.now) }
+{
+    let text = match fault {
+        RuleFault::NotToml => String::from_str(alloc, "not toml")?,
+        RuleFault::Unknown => String::from_str(alloc, "unknown key")?,
+        RuleFault::MissingKey { key } => {
+            let name = key.name();
+            format!(in alloc; "missing {name}")?
+        }
+        RuleFault::WrongType { key } => {
+            let name = key.name();
+            format!(in alloc; "wrong type {name}")?
+        }
+        RuleFault::OutOfRange { key } => {
+            let name = key.name();
+            format!(in alloc; "out of range {name}")?
+        }
+        RuleFault::NoMemory => return Err(NoMemory),
+    };
+    Ok(text)
+}
+
+/// Which number of scatter bars doesn't suit the rules.
+fn bar_text(key: BarKey) -> &'static str
+    ensures { result.now ≡ bar_text key }
+{
+    match key {
+        BarKey::Gap => "gap",
+        BarKey::Width => "width",
+        BarKey::Min => "min",
+    }
+}
+
+/// What a line says of a moves file.
+fn moves_text(alloc: Global, fault: &MoveFault) -> Result<String, NoMemory>
+    ensures { IfOk result (λ text. string_bytes text ≡ moves_text fault.now) }
+{
+    let text = match fault {
+        MoveFault::BadLine { line } => format!(in alloc; "bad line {line}")?,
+        MoveFault::NoMemory => return Err(NoMemory),
+    };
+    Ok(text)
+}
+
+/// The line of a target that breaks a mask rule.
+fn target_line(alloc: Global, broken: Broken) -> Result<String, NoMemory>
+    ensures { IfOk result (λ line. string_bytes line ≡ fault_line (EngineFault.Target broken)) }
+{
+    match broken {
+        Broken {
+            rule,
+            at: Place::Pixel(Pix { x, y }),
+        } => {
+            let rule = rule_name(rule);
+            Ok(format!(in alloc; "opc: target: {rule} at {x} {y}\n")?)
+        }
+        Broken {
+            rule,
+            at: Place::Fragment(number),
+        } => {
+            let rule = rule_name(rule);
+            Ok(format!(in alloc; "opc: target: {rule} fragment {number}\n")?)
+        }
+    }
+}
+
+fn rule_name(rule: RuleName) -> &'static str
+    ensures { result.now ≡ rule_name rule }
+{
+    match rule {
+        RuleName::M0 => "M0",
+        RuleName::M1 => "M1",
+        RuleName::M2 => "M2",
+        RuleName::M3 => "M3",
+        RuleName::M4 => "M4",
+        RuleName::M5 => "M5",
+    }
 }
 
 /// The line of a fault of the engine.
@@ -112,6 +195,14 @@ fn fault_line(alloc: Global, fault: &EngineFault) -> Result<String, NoMemory>
         EngineFault::TooLong { which } => {
             let file = which_text(*which);
             format!(in alloc; "opc: {file}: too long\n")?
+        }
+        EngineFault::Rules(fault) => {
+            let text = rules_text(alloc, fault)?;
+            format!(in alloc; "opc: rules: {text}\n")?
+        }
+        EngineFault::BadBars { key } => {
+            let name = bar_text(*key);
+            format!(in alloc; "opc: rules: bars {name}\n")?
         }
         EngineFault::Kernels(fault) => {
             let text = kernels_text(alloc, fault)?;
@@ -126,6 +217,20 @@ fn fault_line(alloc: Global, fault: &EngineFault) -> Result<String, NoMemory>
             format!(in alloc; "opc: layout: {text}\n")?
         }
         EngineFault::TooManyCorners => String::from_str(alloc, "opc: layout: too many corners\n")?,
+        EngineFault::Target(broken) => target_line(alloc, *broken)?,
+        EngineFault::TooManyFragments { count } => {
+            format!(in alloc; "opc: layout: too many fragments {count}\n")?
+        }
+        EngineFault::TooWide { pixels } => {
+            format!(in alloc; "opc: layout: too wide {pixels}\n")?
+        }
+        EngineFault::Moves(fault) => {
+            let text = moves_text(alloc, fault)?;
+            format!(in alloc; "opc: moves: {text}\n")?
+        }
+        EngineFault::NoFragment { line } => {
+            format!(in alloc; "opc: moves: no fragment at line {line}\n")?
+        }
         EngineFault::NoMemory => String::from_str(alloc, OUT_OF_MEMORY)?,
     };
     Ok(line)

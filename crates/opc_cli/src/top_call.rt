@@ -2,72 +2,19 @@
 ghost use Rattle.std.specs.Prelude.{◌≡◌, ◌≤◌, OnOk, IfErr};
 ghost use Rattle.opc_base.specs.Outside.{Says};
 ghost use Rattle.opc_cli.specs.Command.{texts};
-ghost use Rattle.opc_cli.specs.Fault.{status_of_which, status_of_fault};
+ghost use Rattle.opc_cli.specs.NewNames.{StoresNewNames};
 ghost use Rattle.opc_cli.specs.Outcome.{IsStatus, IsRefusal, Done, HasNoCommand, CannotRead, CannotWrite, IsRefused, OutOfMemory, MustCome, SaysMemoryLine};
 ghost use Rattle.opc_cli.specs.Steps.{Counts, StopSaid};
-ghost use Rattle.opc_cli.specs.Stop.{status_of};
 
 use crate::command::WordFault;
-use crate::commands::serve;
 use crate::lines::{OUT_OF_MEMORY, line_of};
+use crate::serve::serve;
+use crate::status::{BAD_WORDS, CANNOT_READ, CANNOT_WRITE, DONE, NO_MEMORY, status_of};
 use crate::stop::Stop;
 use crate::words::words_of;
 use opc_base::{Host, HostFault, Watch};
-use opc_engine::{EngineFault, Which};
 use std::alloc::Global;
 use std::thread::Threads;
-
-const DONE: u8 = 0;
-
-const BAD_WORDS: u8 = 2;
-
-const CANNOT_READ: u8 = 3;
-
-const CANNOT_WRITE: u8 = 4;
-
-const BAD_LAYOUT: u8 = 5;
-
-const BAD_KERNELS: u8 = 6;
-
-const BAD_RULES: u8 = 7;
-
-const BAD_MOVES: u8 = 8;
-
-const NO_MEMORY: u8 = 10;
-
-fn status_of_which(which: Which) -> u8
-    ensures { result ≡ status_of_which which }
-{
-    match which {
-        Which::Layout => BAD_LAYOUT,
-        Which::Kernels => BAD_KERNELS,
-        Which::Rules => BAD_RULES,
-        Which::Moves => BAD_MOVES,
-    }
-}
-
-fn status_of_fault(fault: &EngineFault) -> u8
-    ensures { result ≡ status_of_fault fault.now }
-{
-    match fault {
-        EngineFault::TooLong { which } => status_of_which(*which),
-        EngineFault::Kernels(_) => BAD_KERNELS,
-        EngineFault::Layout(_) | EngineFault::Place(_) | EngineFault::TooManyCorners => BAD_LAYOUT,
-        EngineFault::NoMemory => NO_MEMORY,
-    }
-}
-
-fn status_of(stop: &Stop<'_>) -> u8
-    ensures { result ≡ status_of stop.now }
-{
-    match stop {
-        Stop::Words => BAD_WORDS,
-        Stop::Read(_) => CANNOT_READ,
-        Stop::Write(_) | Stop::Said => CANNOT_WRITE,
-        Stop::Refused(fault) => status_of_fault(fault),
-        Stop::NoMemory => NO_MEMORY,
-    }
-}
 
 /// Says that memory ran out, as far as that can be said, and answers its status.
 pub fn say_no_memory<H: Host>(alloc: Global, host: &mut H) -> u8
@@ -100,6 +47,7 @@ fn say_stop<H: Host>(alloc: Global, host: &mut H, stop: &Stop<'_>) -> u8
 /// All that the program does: reads its words, loads their files, stores and says the answer or says one line of what
 /// went wrong, and answers the status. `words` are those after the program's own name. Want of memory is status 10, and
 /// may come in any stage.
+#[tactic(auto, using(crate::proofs::NewNames::stores_new_names))]
 pub fn opc_run<R: Threads + Sync, H: Host, W: Watch + Sync>(
     rt: &R,
     alloc: Global,
@@ -115,6 +63,7 @@ pub fn opc_run<R: Threads + Sync, H: Host, W: Watch + Sync>(
     ensures refused { IsRefusal result → IsRefused (texts words.now) (H.outside host.old) result (H.outside host.new) }
     ensures memory { result ≡ NO_MEMORY → OutOfMemory (texts words.now) (H.outside host.old) (H.outside host.new) }
     ensures must_come { MustCome (texts words.now) (H.outside host.old) result (H.outside host.new) }
+    ensures names { StoresNewNames (texts words.now) }
     ensures counts { Counts (H.outside host.old) (H.outside host.new) }
 {
     let command = match words_of(alloc, words) {
@@ -122,7 +71,7 @@ pub fn opc_run<R: Threads + Sync, H: Host, W: Watch + Sync>(
         Err(WordFault::Words) => return say_stop(alloc, host, &Stop::Words),
         Err(WordFault::NoMemory) => return say_stop(alloc, host, &Stop::NoMemory),
     };
-    match serve(alloc, &command, host) {
+    match serve(rt, alloc, &command, host, watch) {
         Ok(()) => DONE,
         Err(stop) => say_stop(alloc, host, &stop),
     }

@@ -1,16 +1,22 @@
 //! Why a command refuses its files.
 
-use crate::Which;
+use crate::{BarKey, Which};
+use cutting::CutFault;
 use gds_model::{LayoutFault, PlaceFault};
 use kernel_file::KernelFault;
-use opc_base::NoMemory;
+use opc_base::{Broken, NoMemory};
 use rect_union::UnionFault;
+use rule_file::{MoveFault, RuleFault};
 
 /// Why the bytes of the files call for no answer. A wrapped fault is never the lower want of memory.
 #[derive(Clone, Copy, Debug, PartialEq, Eq)]
 pub enum EngineFault {
     /// The file has more bytes than its limit.
     TooLong { which: Which },
+    /// The rule file breaks its format.
+    Rules(RuleFault),
+    /// A number of scatter bars doesn't suit the mask rules.
+    BadBars { key: BarKey },
     /// The kernel file breaks its format.
     Kernels(KernelFault),
     /// The layout breaks its format.
@@ -19,6 +25,16 @@ pub enum EngineFault {
     Place(PlaceFault),
     /// The target has more than 65,536 corners.
     TooManyCorners,
+    /// The target breaks a mask rule.
+    Target(Broken),
+    /// The target's edges are cut into more than 32,768 fragments.
+    TooManyFragments { count: u64 },
+    /// The window round the target has more than 4,194,304 pixels, namely so many.
+    TooWide { pixels: u64 },
+    /// The moves file breaks its format.
+    Moves(MoveFault),
+    /// A line of the moves file, counted from 1, names no fragment.
+    NoFragment { line: u32 },
     /// Memory ran out.
     NoMemory,
 }
@@ -86,6 +102,48 @@ impl From<UnionFault> for EngineFault {
         match fault {
             UnionFault::TooManyCorners => EngineFault::TooManyCorners,
             UnionFault::NoMemory => EngineFault::NoMemory,
+        }
+    }
+}
+
+impl From<RuleFault> for EngineFault {
+    ghost use Rattle.opc_engine.specs.Wrapped.{wrapped_rules};
+    ghost use Rattle.std.specs.Prelude.{◌≡◌};
+
+    ghost from_gives = { λ fault e. e ≡ wrapped_rules fault };
+
+    fn from(fault: RuleFault) -> Self {
+        match fault {
+            RuleFault::NoMemory => EngineFault::NoMemory,
+            fault => EngineFault::Rules(fault),
+        }
+    }
+}
+
+impl From<CutFault> for EngineFault {
+    ghost use Rattle.opc_engine.specs.Wrapped.{wrapped_cut};
+    ghost use Rattle.std.specs.Prelude.{◌≡◌};
+
+    ghost from_gives = { λ fault e. e ≡ wrapped_cut fault };
+
+    fn from(fault: CutFault) -> Self {
+        match fault {
+            CutFault::TooManyFragments { count } => EngineFault::TooManyFragments { count },
+            CutFault::NoMemory => EngineFault::NoMemory,
+        }
+    }
+}
+
+impl From<MoveFault> for EngineFault {
+    ghost use Rattle.opc_engine.specs.Wrapped.{wrapped_moves};
+    ghost use Rattle.std.specs.Prelude.{◌≡◌};
+
+    ghost from_gives = { λ fault e. e ≡ wrapped_moves fault };
+
+    fn from(fault: MoveFault) -> Self {
+        match fault {
+            MoveFault::NoMemory => EngineFault::NoMemory,
+            fault => EngineFault::Moves(fault),
         }
     }
 }

@@ -5,7 +5,7 @@ ghost use Rattle.opc_base.specs.Lanes.{AddUpNear, LanesAre, amplitude_of_lane, l
 ghost use Rattle.opc_base.specs.Plane.{IsPixWithin, IsRectWithin, cover};
 ghost use Rattle.opc_base.specs.Optics.{KeepsBounds, intensity};
 ghost use Rattle.corners.specs.Windows.{Shows};
-ghost use Rattle.lane_intensity.specs.Differences.{AreLanes, IsCornerWithin};
+ghost use Rattle.lane_intensity.specs.Differences.{AreLanes, IsCornerInRange};
 
 use corners::corners_of;
 use lane_intensity::{add_corners, intensity};
@@ -72,7 +72,7 @@ fn corners_round(
     requires at { IsPixWithin 1048576 at }
     requires low { pos 0 ≤ℤ reach }
     requires near { reach ≤ℤ pos 64 }
-    ensures each { IfOk result (λ corners. All (IsCornerWithin 1050000) corners.items) }
+    ensures each { IfOk result (λ corners. All (IsCornerInRange 1050000) corners.items) }
     ensures few { IfOk result (λ corners. length corners.items ≤ 1048576) }
     ensures near { IfOk result (λ corners. AddUpNear (unsigned_abs reach) corners.items (cover region.now) at.x at.y) }
 {
@@ -96,7 +96,7 @@ fn window_round(at: Pix, reach: i32) -> Rect
 }
 
 /// The weights of the kernels.
-fn weights_of(alloc: Global, kernels: &KernelSet) -> Result<Vec<i64>, NoMemory>
+pub fn weights_of(alloc: Global, kernels: &KernelSet) -> Result<Vec<i64>, NoMemory>
     ensures { IfOk result (λ weights. weights.items ≡ weights_of kernels.now) }
 {
     let weights = kernels

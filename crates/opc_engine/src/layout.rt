@@ -1,20 +1,20 @@
 //! The library of a layout file.
 ghost use Rattle.std.specs.Prelude.{◌≡◌, ◌⊎◌, IfOk, IfErr};
-ghost use Rattle.gds_records.specs.Records.{AreLongest, records_from};
+ghost use Rattle.opc_engine.specs.Heads.{IsHead};
 ghost use Rattle.opc_engine.specs.LayoutTarget.{IsRead, IsUnread};
+ghost use Rattle.opc_engine.specs.Wrapped.{HidesNoMemory};
 
 use crate::{EngineFault, MAX_LAYOUT, Which};
 use gds_library::{Library, read_library};
 use std::alloc::Global;
 
-/// The library of a layout file, or why it has none: it is too long, or it has a fault. The file's records, from which
-/// either follows, are the longest list of records that stands in it.
+/// The library of a layout file, or why it has none: it is too long, or it has a fault.
+#[tactic(auto, using(crate::proofs::MemoryLaws::layout_hides_nothing))]
 pub fn read_layout(alloc: Global, layout: &[u8]) -> Result<Library, EngineFault>
     ensures library { IfOk result (λ library. IsRead layout.now library) }
-
-    // of all bytes
-    ensures records { AreLongest layout.now 0 (records_from layout.now 0) }
+    ensures head { IfOk result (λ library. IsHead library.head) }
     ensures refusal { IfErr result (λ fault. (fault ≡ EngineFault.NoMemory) ⊎ IsUnread layout.now fault) }
+    ensures memory { IfErr result (λ fault. ¬ HidesNoMemory fault) }
 {
     if layout.len() > MAX_LAYOUT {
         return Err(EngineFault::TooLong {

@@ -1,5 +1,11 @@
 //! The commands of `opc` as functions of the bytes of their files.
 //!
+//! `correct` reads a layout, kernels and rules, moves the fragments of the target's edges in rounds, and answers the mask
+//! file and the error table; `moves` moves them by hand, and `simulate` not at all. `specs/Corrections.antt` says what each
+//! answers: the record `Corrects` has the whole promise of `correct`, and the order of refusals is read from `Prepares` in
+//! `specs/Prepare.antt`, a line for each stage. `trial` corrects an input that it makes from a number. `laws` says that files
+//! call for one result at most, and that tiles and workers change none.
+//!
 //! `probe` reads a kernel file and a layout, and answers the intensity at one pixel of the target:
 //!
 //! ```text
@@ -13,16 +19,52 @@
 //! clause `refusal` says that any other answer is the first refusal of the files, or want of memory.
 #![tactic(auto)]
 
+mod answer;
 mod ask;
+mod assistance;
+mod bar_key;
+mod bar_prepare;
+mod bar_print;
+mod bar_run;
+mod bar_table;
+mod bar_written;
+mod correction;
 mod fault;
+mod flaw_list;
+mod hand_moves;
 mod image;
 mod kernels;
+mod laws;
 mod layout;
 mod limits;
 mod one_pixel;
+mod polygon_mask;
+mod prepare;
+mod printing;
+mod rules;
+mod run;
+mod simulation;
+mod table;
 mod target;
+mod trial_cells;
+mod trial_input;
+mod trial_shapes;
+mod trying;
+mod window;
+mod written;
 
+pub use answer::Answer;
 pub use ask::{Ask, Which};
+pub use assistance::assist;
+pub use bar_key::BarKey;
+pub use correction::correct;
 pub use fault::EngineFault;
-pub use limits::{MAX_KERNELS, MAX_LAYOUT};
+pub use hand_moves::moves;
+pub use laws::{answers_are_one, sharing_changes_nothing};
+pub use limits::{MAX_KERNELS, MAX_LAYOUT, MAX_MOVES, MAX_RULES, MAX_WINDOW};
 pub use one_pixel::probe;
+pub use polygon_mask::polygons;
+pub use printing::check;
+pub use simulation::simulate;
+pub use trial_input::{TrialFiles, trial_files};
+pub use trying::trial;

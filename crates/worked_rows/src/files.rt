@@ -51,6 +51,17 @@ pub fn layout_of(alloc: Global, rectangles: &[Sides]) -> Result<Vec<u8>, NoMemor
     Ok(out)
 }
 
+/// The mask file of these rectangles, for a layout that begins with the opening.
+pub fn mask_of(alloc: Global, rectangles: &[Sides]) -> Result<Vec<u8>, NoMemory> {
+    let mut out = layout_of(alloc, rectangles)?;
+    for (at, letter) in [(94, b'M'), (95, b'A'), (96, b'S'), (97, b'K')] {
+        if let Some(place) = out.get_mut(at) {
+            *place = letter;
+        }
+    }
+    Ok(out)
+}
+
 /// A kernel file of one kernel of reach 1 and weight 1, whose entries have these real parts.
 pub fn kernel_of(alloc: Global, parts: &[u8; 9]) -> Result<Vec<u8>, NoMemory> {
     let mut out = b"OPK1\x00\x01\x00\x01\x00\x01".to_vec(alloc)?;

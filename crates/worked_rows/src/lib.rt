@@ -6,7 +6,13 @@
 #![tactic(auto)]
 
 #[cfg(test)]
+mod assist_rows;
+#[cfg(test)]
+mod cut_rows;
+#[cfg(test)]
 mod drawing;
+#[cfg(test)]
+mod failure_rows;
 #[cfg(test)]
 mod fault_rows;
 pub mod files;
@@ -18,14 +24,40 @@ mod kernel_rows;
 #[cfg(test)]
 mod layout_rows;
 #[cfg(test)]
+mod limit_rows;
+#[cfg(test)]
+mod line_rows;
+#[cfg(test)]
 mod order_rows;
+#[cfg(test)]
+mod outputs;
 #[cfg(test)]
 mod placement_rows;
 #[cfg(test)]
+mod polygon_rows;
+#[cfg(test)]
+mod print_rows;
+#[cfg(test)]
 mod probe_rows;
+#[cfg(test)]
+mod refusal_rows;
+#[cfg(test)]
+mod rules;
 #[cfg(test)]
 mod runs;
 #[cfg(test)]
 mod shape_rows;
+#[cfg(test)]
+mod sharing_rows;
+#[cfg(test)]
+mod table_rows;
+#[cfg(test)]
+mod tool_layout;
+#[cfg(test)]
+mod tool_rows;
+#[cfg(test)]
+mod trial_input_rows;
+#[cfg(test)]
+mod trial_rows;
 #[cfg(test)]
 mod word_rows;

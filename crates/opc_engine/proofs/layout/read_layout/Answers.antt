@@ -1,5 +1,5 @@
 use Rattle.std.proofs.lemmas.Result.{err_from_is_err_and}
-use Rattle.gds_records.proofs.Longest.{records_are_longest}
+use Rattle.opc_engine.proofs.HeadLaws.{head_of_read}
 use Rattle.opc_engine.proofs.Stages.{unread}
 use Rattle.opc_engine.proofs.layout.read_layout.Goals as goal
 
@@ -8,11 +8,7 @@ returns-in_err-read_library-clause-refusal c =
     let p = err_from_is_err_and c.from_residual.result c.from_residual.ensures.1 in
     rw (p.1, p.2) (unread c.args.layout.now _ c.if-layout-gt-MAX_LAYOUT.false c.in_err-read_library.ensures.fault)
 
-pub returns-clause-records : goal.returns-clause-records
-returns-clause-records c = records_are_longest c.args.layout.now 0
-
-pub returns-then-layout-gt-MAX_LAYOUT-clause-records : goal.returns-then-layout-gt-MAX_LAYOUT-clause-records
-returns-then-layout-gt-MAX_LAYOUT-clause-records c = records_are_longest c.args.layout.now 0
-
-pub returns-in_err-read_library-clause-records : goal.returns-in_err-read_library-clause-records
-returns-in_err-read_library-clause-records c = records_are_longest c.args.layout.now 0
+pub returns-clause-head : goal.returns-clause-head
+returns-clause-head c =
+    head_of_read c.args.layout.now (λ i. (c.type_inv.layout i).fits) c.in_ok-read_library.field-0
+    (record { short = c.if-layout-gt-MAX_LAYOUT.false; fine = c.in_ok-read_library.ensures.fine; described = c.in_ok-read_library.ensures.library })

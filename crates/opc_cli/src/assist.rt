@@ -1,0 +1,46 @@
+//! The command `assist`.
+ghost use Rattle.std.specs.Prelude.{◌≡◌, IfOk, IfErr};
+ghost use Rattle.assist_bars.specs.Bars.{AreBarRules};
+ghost use Rattle.opc_base.specs.Outside.{Loads};
+ghost use Rattle.opc_cli.specs.Steps.{Answers, CommandStops};
+
+use crate::answer::Answer;
+use crate::command::Command;
+use crate::loads::load_sources;
+use crate::outputs::mask_and_table;
+use crate::stop::Stop;
+use assist_bars::BarRules;
+use opc_base::{Host, Text, Watch};
+use std::alloc::Global;
+use std::thread::Threads;
+
+/// `assist`: the mask file and the table of a correction with scatter bars.
+pub fn assist<'a, R: Threads + Sync, H: Host, W: Watch + Sync>(
+    rt: &R,
+    alloc: Global,
+    host: &mut H,
+    layout: &'a Text,
+    kernels: &'a Text,
+    rules: &'a Text,
+    mask: &'a Text,
+    table: &'a Text,
+    bars: &BarRules,
+    watch: &W,
+) -> Result<Answer<'a>, Stop<'a>>
+    requires { AreBarRules bars.now }
+    ensures answer { IfOk result (Answers (Command.Assist layout.now kernels.now rules.now mask.now table.now bars.now.gap bars.now.width bars.now.end bars.now.min) (H.outside host.old)) }
+    ensures stop { IfErr result (CommandStops (Command.Assist layout.now kernels.now rules.now mask.now table.now bars.now.gap bars.now.width bars.now.end bars.now.min) (H.outside host.old) (H.outside host.new)) }
+    ensures rest { Loads (H.outside host.old) (H.outside host.new) }
+{
+    let sources = load_sources(alloc, host, layout, kernels, rules)?;
+    let given = opc_engine::assist(
+        rt,
+        alloc,
+        sources.layout.as_slice(),
+        sources.kernels.as_slice(),
+        sources.rules.as_slice(),
+        bars,
+        watch,
+    )?;
+    mask_and_table(alloc, mask, table, given)
+}

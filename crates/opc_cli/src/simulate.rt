@@ -1,0 +1,40 @@
+//! The command `simulate`.
+ghost use Rattle.std.specs.Prelude.{◌≡◌, IfOk, IfErr};
+ghost use Rattle.opc_base.specs.Outside.{Loads};
+ghost use Rattle.opc_cli.specs.Steps.{Answers, CommandStops};
+
+use crate::answer::Answer;
+use crate::command::Command;
+use crate::loads::load_sources;
+use crate::outputs::table_alone;
+use crate::stop::Stop;
+use opc_base::{Host, Text, Watch};
+use std::alloc::Global;
+use std::thread::Threads;
+
+/// `simulate`: the error table of the target.
+pub fn simulate<'a, R: Threads + Sync, H: Host, W: Watch + Sync>(
+    rt: &R,
+    alloc: Global,
+    host: &mut H,
+    layout: &'a Text,
+    kernels: &'a Text,
+    rules: &'a Text,
+    table: &'a Text,
+    watch: &W,
+) -> Result<Answer<'a>, Stop<'a>>
+    ensures answer { IfOk result (Answers (Command.Simulate layout.now kernels.now rules.now table.now) (H.outside host.old)) }
+    ensures stop { IfErr result (CommandStops (Command.Simulate layout.now kernels.now rules.now table.now) (H.outside host.old) (H.outside host.new)) }
+    ensures rest { Loads (H.outside host.old) (H.outside host.new) }
+{
+    let sources = load_sources(alloc, host, layout, kernels, rules)?;
+    let given = opc_engine::simulate(
+        rt,
+        alloc,
+        sources.layout.as_slice(),
+        sources.kernels.as_slice(),
+        sources.rules.as_slice(),
+        watch,
+    )?;
+    table_alone(alloc, table, given)
+}
