@@ -33,8 +33,14 @@ def main():
     moves = 200_000
     judged = best(program, "moves", moves) - best(program, "moves", 0)
     print(f"first_broken, of 32,768 fragments: {judged / moves * 1e6:.2f} microseconds a move")
+    bars = best(program, "bars", 8192) - best(program, "apart", 8192)
+    print(f"bars of 32,768 edges: {bars * 1e3:.1f} ms")
     mask = best(program, "mask", 65536) - best(program, "tower", 65536)
     print(f"write_mask of 65,536 rectangles: {mask * 1e3:.1f} ms")
+    tall = best(program, "tall", 65536) - best(program, "tower", 65536)
+    print(f"write_polygons of one component of 65,536 rectangles: {tall * 1e3:.1f} ms")
+    polygons = best(program, "polygons", 32768) - best(program, "frames", 32768)
+    print(f"write_polygons of 8,192 frames round holes, 32,768 rectangles: {polygons * 1e3:.1f} ms")
 
 
 if __name__ == "__main__":
