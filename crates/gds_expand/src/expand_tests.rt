@@ -39,6 +39,11 @@ impl Layout {
         put_record(self.alloc, &mut self.bytes, 6, 6, &[name, 0])
     }
 
+    fn begin_in_chain(&mut self, number: u16) -> Result<(), NoMemory> {
+        put_record(self.alloc, &mut self.bytes, 5, 2, &[0; 24])?;
+        put_record(self.alloc, &mut self.bytes, 6, 6, &name_in_chain(number))
+    }
+
     fn end(&mut self) -> Result<(), NoMemory> {
         put_record(self.alloc, &mut self.bytes, 7, 0, &[])
     }
@@ -46,6 +51,14 @@ impl Layout {
     fn rectangle(&mut self) -> Result<(), NoMemory> {
         put_record(self.alloc, &mut self.bytes, 8, 0, &[])?;
         self.bytes.append(&RECTANGLE)
+    }
+
+    /// A reference at the origin to a structure of a chain.
+    fn link(&mut self, number: u16) -> Result<(), NoMemory> {
+        put_record(self.alloc, &mut self.bytes, 10, 0, &[])?;
+        put_record(self.alloc, &mut self.bytes, 18, 6, &name_in_chain(number))?;
+        put_record(self.alloc, &mut self.bytes, 16, 3, &[0; 8])?;
+        put_record(self.alloc, &mut self.bytes, 17, 0, &[])
     }
 
     /// A reference, with STRANS, ANGLE 90 and the x of its origin.
@@ -173,5 +186,49 @@ fn finds_the_lowest_of_a_reached_cycle(rt: HostRuntime) -> Result<(), PlaceFault
         with_cycle(rt.alloc(), false)?.expand()?.outlines().len(),
         1
     );
+    Ok(())
+}
+
+/// The structures of a long chain besides its top.
+const OTHERS: u16 = 4_000;
+
+fn name_in_chain(number: u16) -> [u8; 4] {
+    let digits = number.to_be_bytes();
+    [1, digits[0], digits[1], 1]
+}
+
+/// Structures of which each references the next. The last places a rectangle, and in a ring it references the second.
+fn chain(alloc: Global, ring: bool) -> Result<Layout, NoMemory> {
+    let mut layout = Layout::new(alloc)?;
+    layout.begin(b'T')?;
+    layout.link(0)?;
+    layout.end()?;
+    for number in 0..OTHERS {
+        layout.begin_in_chain(number)?;
+        if number + 1 < OTHERS {
+            layout.link(number + 1)?;
+        } else {
+            layout.rectangle()?;
+        }
+        if ring && number + 1 == OTHERS {
+            layout.link(0)?;
+        }
+        layout.end()?;
+    }
+    Ok(layout)
+}
+
+#[test]
+fn follows_a_long_chain(rt: HostRuntime) -> Result<(), PlaceFault> {
+    assert_eq!(rt; chain(rt.alloc(), false)?.expand()?.outlines().len(), 1);
+    Ok(())
+}
+
+#[test]
+fn finds_the_lowest_of_a_long_ring(rt: HostRuntime) -> Result<(), PlaceFault> {
+    match chain(rt.alloc(), true)?.expand() {
+        Err(fault) => assert_eq!(rt; fault, PlaceFault::Cycle { structure: 1 }),
+        Ok(_) => panic!(rt; "not refused"),
+    }
     Ok(())
 }

@@ -96,7 +96,7 @@ pub(crate) fn part_plan(
     ensures few { IfOk result (λ plan. vec_len plan ≤ 65535) }
     ensures parts { IfOk result (λ plan. map (λ row. row.items) plan.items ≡ map (λ s. parts_in library.now.structures (is_on pick.now.layer pick.now.datatype) s.elements) library.now.structures) }
 {
-    let mut plan = Vec::new(alloc);
+    let mut plan = Vec::with_capacity(alloc, library.count() as usize)?;
     for i in 0..library.count() {
         let structure = library.structure(i);
         let row = parts_in(alloc, library, pick, structure.elements.as_slice())?;
@@ -130,7 +130,7 @@ fn targets_of(alloc: Global, parts: &[Part]) -> Result<Vec<usize>, AllocError>
 pub(crate) fn graph_of(alloc: Global, plan: &[Vec<Part>]) -> Result<Vec<Vec<usize>>, AllocError>
     ensures { IfOk result (λ graph. map (λ row. row.items) graph.items ≡ map (λ row. targets_of row.items) plan.now) }
 {
-    let mut graph = Vec::new(alloc);
+    let mut graph = Vec::with_capacity(alloc, plan.len())?;
     for row in plan {
         let targets = targets_of(alloc, row)?;
         graph.push(targets)?;

@@ -42,7 +42,7 @@ fn is_repeated(point: Position, rest: &[Position]) -> bool
 fn merge(alloc: Global, points: &[Position]) -> Result<Vec<Position>, AllocError>
     ensures { IfOk result (λ left. left.items ≡ merged points.now) }
 {
-    let mut left = Vec::new(alloc);
+    let mut left = Vec::with_capacity(alloc, points.len())?;
     for (i, point) in points.iter().enumerate() {
         if !is_repeated(*point, &points[i + 1..]) {
             left.push(*point)?;
@@ -64,7 +64,7 @@ fn is_straight(before: Position, point: Position, rest: &[Position]) -> bool
 fn straighten(alloc: Global, points: &[Position]) -> Result<Vec<Position>, AllocError>
     ensures { IfOk result (λ left. left.items ≡ straightened points.now) }
 {
-    let mut left = Vec::new(alloc);
+    let mut left = Vec::with_capacity(alloc, points.len())?;
     let Some((first, rest)) = points.split_first() else {
         return Ok(left);
     };
@@ -159,7 +159,7 @@ fn rects_through(
     requires { All (IsPositionWithin (2 ^ 51)) corners.now }
     ensures { IfOk result (λ rects. rects.items ≡ rects_through form.now corners.now) }
 {
-    let mut rects = Vec::new(alloc);
+    let mut rects = Vec::with_capacity(alloc, corners.len())?;
     let Some((first, rest)) = corners.split_first() else {
         return Ok(rects);
     };

@@ -20,7 +20,7 @@ fn empty_plan<'a>(alloc: Global, count: u32) -> Result<Vec<Vec<Step<'a>>>, Alloc
     ensures sized { IfOk result (λ plan. vec_len plan ≡ count) }
     ensures empty { IfOk result (λ plan. (s : ℕ) → steps_of plan.items s ≡ []) }
 {
-    let mut plan = Vec::new(alloc);
+    let mut plan = Vec::with_capacity(alloc, count as usize)?;
     for _ in 0..count {
         plan.push(Vec::new(alloc))?;
     }

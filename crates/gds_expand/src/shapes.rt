@@ -50,7 +50,7 @@ fn place_points(
     ensures value { IfOk result (λ positions. positions.items ≡ placed_points (placed placement.now) points.now) }
     ensures near { IfOk result (λ positions. All (IsPositionWithin (2 ^ 51)) positions.items) }
 {
-    let mut positions = Vec::new(alloc);
+    let mut positions = Vec::with_capacity(alloc, points.len())?;
     for point in points {
         positions.push(placement.place(position_of(*point)))?;
     }
@@ -234,7 +234,7 @@ fn pixels(alloc: Global, side: &Side, points: &[Position]) -> Result<Vec<Pix>, A
     requires near { All (λ p. of_point (is_far side.now.length) p ≡ false) points.now }
     ensures { IfOk result (λ pixels. pixels.items ≡ map (pixel_at side.now.length) points.now) }
 {
-    let mut pixels = Vec::new(alloc);
+    let mut pixels = Vec::with_capacity(alloc, points.len())?;
     for point in points {
         pixels.push(pixel_at(side, point))?;
     }
@@ -260,7 +260,7 @@ fn pixel_rects(alloc: Global, side: &Side, rects: &[DoubledRect]) -> Result<Vec<
     requires near { All (λ r. of_rect (is_far side.now.length) r ≡ false) rects.now }
     ensures { IfOk result (λ pixels. pixels.items ≡ map (pixels_in side.now.length) rects.now) }
 {
-    let mut pixels = Vec::new(alloc);
+    let mut pixels = Vec::with_capacity(alloc, rects.len())?;
     for rect in rects {
         pixels.push(pixels_in(side, rect))?;
     }
@@ -407,7 +407,7 @@ pub(crate) fn outlines_of(
     ensures placed { IfOk result (λ list. All IsPlaced list.items) }
     ensures wrong { IfErr result (λ fault. (fault ≡ faults.NoMemory) ⊎ (first_fault pick.now.grid (map mapped shapes.now) ≡ Some fault)) }
 {
-    let mut outlines = Vec::new(alloc);
+    let mut outlines = Vec::with_capacity(alloc, shapes.len())?;
     for shape in shapes {
         outlines.push(outline_of(alloc, pick, shape)?)?;
     }

@@ -1,6 +1,7 @@
 pub mod Firsts
 pub mod NameLemmas
 pub mod NameSets
+pub mod Numbering
 pub mod Language
 pub mod Prefix
 pub mod Accepting

@@ -6,3 +6,4 @@ pub mod OpenElement
 pub mod Gathered
 pub mod Draft
 pub mod Held
+pub mod NameNumbers

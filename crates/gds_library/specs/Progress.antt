@@ -11,13 +11,12 @@ use Rattle.gds_model.specs.StreamFile.{library, IsSentence}
 use Rattle.gds_model.specs.Faults.{IsFine, FaultAt, structure_count, element_of, names_of}
 use Rattle.gds_library.specs.declared.state.State.{State}
 use Rattle.gds_library.specs.declared.progress.Progress.{Progress}
-use Rattle.gds_library.specs.Texts.{texts}
 use Rattle.gds_library.specs.Derivative.{left, is_possible}
 use Rattle.gds_library.specs.State.{rest_of}
 
 -- the names that were read
 abbrev pub names_read : Progress → List (List ℕ)
-names_read p = texts p.names.keys
+names_read p = p.names
 
 -- these records have been read
 pub record Follows (progress : Progress) (before : List StreamRecord) : Type 0 where

@@ -24,6 +24,7 @@ mod body;
 mod codes;
 mod draft;
 mod library;
+mod name_numbers;
 mod names;
 mod numbers;
 mod open_element;

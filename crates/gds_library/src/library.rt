@@ -1,9 +1,9 @@
 //! A layout that was read.
 ghost use Rattle.std.specs.Prelude.{◌≡◌, ◌<◌, ◌↔◌, length, slice_get, IfSome, IsSome, Some};
 
+use crate::name_numbers::NameNumbers;
 use gds_model::Structure;
 use gds_records::Head;
-use indexmap::IndexSet;
 use opc_base::Name;
 use std::marker::Model;
 
@@ -13,7 +13,7 @@ use std::marker::Model;
 pub struct Library {
     head: Head,
     structures: Vec<Structure>,
-    names: IndexSet<Vec<u8>>,
+    names: NameNumbers,
 }
 
 impl Model for Library {
@@ -32,22 +32,21 @@ impl Library {
     ghost use Rattle.std.specs.Prelude.{Option};
     ghost use Rattle.std.specs.List.{Contains};
     ghost use Rattle.gds_model.specs.Library.{IsLayout, names};
-    ghost use Rattle.gds_library.specs.Texts.{texts};
 
-    /// The library with this head and these structures, whose names are those of the set.
+    /// The library with this head and these structures, whose names are these.
     pub(crate) fn from_parts(
         head: Head,
         structures: Vec<Structure>,
-        set: IndexSet<Vec<u8>>,
+        numbers: NameNumbers,
     ) -> Library
         requires layout { IsLayout (record { head = head; structures = structures.items }) }
-        requires named { texts set.keys ≡ names structures.items }
+        requires named { numbers ≡ names structures.items }
         ensures { result ≡ record { head = head; structures = structures.items } }
     {
         Library {
             head,
             structures,
-            names: set,
+            names: numbers,
         }
     }
 
@@ -82,7 +81,7 @@ impl Library {
         ensures found { IsSome result ↔ Contains (names self.now.structures) name.now }
         ensures layout { IsLayout self.now }
     {
-        match self.names.get_index_of(name.as_slice()) {
+        match self.names.number_of(name.as_slice()) {
             Some(i) => Some(i as u32),
             None => None,
         }

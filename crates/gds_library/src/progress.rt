@@ -6,15 +6,15 @@ ghost use Rattle.gds_model.specs.declared.record_kind.RecordKind.TheVariants as 
 ghost use Rattle.gds_model.specs.RecordKind.{code_of};
 ghost use Rattle.gds_model.specs.Names.{name_of};
 ghost use Rattle.gds_model.specs.Body.{element_code, element_kinds, is_one_of};
-ghost use Rattle.gds_library.specs.Texts.{texts, has_name};
+ghost use Rattle.gds_library.specs.Texts.{has_name};
 
 use crate::body::{is_body_fit, is_element};
 use crate::codes::kind_of;
+use crate::name_numbers::NameNumbers;
 use crate::names::name_in;
 use crate::state::State;
 use gds_model::{LayoutFault, RecordKind};
 use gds_records::Record;
-use indexmap::IndexSet;
 use opc_base::NoMemory;
 use std::alloc::Global;
 
@@ -28,7 +28,7 @@ pub struct Progress {
     pub state: State,
     pub structures: u32,
     pub element: Option<RecordKind>,
-    pub names: IndexSet<Vec<u8>>,
+    pub names: NameNumbers,
 }
 
 impl Progress {
@@ -42,7 +42,7 @@ impl Progress {
             state: State::Start,
             structures: 0,
             element: None,
-            names: IndexSet::new(alloc),
+            names: NameNumbers::new(alloc),
         }
     }
 
@@ -90,7 +90,7 @@ impl Progress {
         ensures { (is_one_of (kinds.StrName ∷ []) (code_of kind) && has_name (names_read self.now) (name_of body.now)) ≡ result }
     {
         match kind {
-            RecordKind::StrName => self.names.contains(name_in(body)),
+            RecordKind::StrName => self.names.number_of(name_in(body)).is_some(),
             _ => false,
         }
     }
@@ -142,16 +142,16 @@ impl Progress {
 #[tactic(auto, using(crate::proofs::Firsts::not_one_of))]
 fn add_name(
     alloc: Global,
-    names: &mut IndexSet<Vec<u8>>,
+    names: &mut NameNumbers,
     kind: RecordKind,
     body: &[u8],
 ) -> Result<(), NoMemory>
-    requires { (is_one_of (kinds.StrName ∷ []) (code_of kind) && has_name (texts names.old.keys) (name_of body.now)) ≡ false }
-    ensures { OnOk result (texts names.new.keys ≡ texts names.old.keys ++ (if is_one_of (kinds.StrName ∷ []) (code_of kind) then name_of body.now ∷ [] else [])) }
+    requires { (is_one_of (kinds.StrName ∷ []) (code_of kind) && has_name (names.old) (name_of body.now)) ≡ false }
+    ensures { OnOk result (names.new ≡ names.old ++ (if is_one_of (kinds.StrName ∷ []) (code_of kind) then name_of body.now ∷ [] else [])) }
 {
     match kind {
         RecordKind::StrName => {
-            names.insert(name_in(body).to_vec(alloc)?)?;
+            names.push(name_in(body).to_vec(alloc)?)?;
         }
         _ => {}
     }

@@ -116,6 +116,34 @@ fn finds_a_structure_by_its_name(rt: HostRuntime) -> Result<(), Fail> {
     Ok(())
 }
 
+/// A name of 204 bytes that differs from others of its kind near its end alone.
+fn long_name(number: u16) -> [u8; 204] {
+    let digits = number.to_be_bytes();
+    let mut name = [65; 204];
+    name[201] = digits[0];
+    name[202] = digits[1];
+    name
+}
+
+#[test]
+fn finds_names_of_one_long_prefix(rt: HostRuntime) -> Result<(), Fail> {
+    let mut out = Bytes::from_vec(SQUARE[..62].to_vec(rt.alloc())?);
+    for number in 0u16..4_000 {
+        put_record(rt.alloc(), &mut out, 5, 2, &[0; 24])?;
+        put_record(rt.alloc(), &mut out, 6, 6, &long_name(number))?;
+        put_record(rt.alloc(), &mut out, 7, 0, &[])?;
+    }
+    put_record(rt.alloc(), &mut out, 4, 0, &[])?;
+    let library = read_library(rt.alloc(), out.as_slice())?;
+    for number in [0u16, 1, 2_047, 3_999] {
+        let name = Name::from_vec(long_name(number).to_vec(rt.alloc())?);
+        assert_eq!(rt; library.number_of(&name), Some(u32::from(number)));
+    }
+    let none = Name::from_vec(long_name(4_000).to_vec(rt.alloc())?);
+    assert_eq!(rt; library.number_of(&none), None);
+    Ok(())
+}
+
 #[test]
 fn refuses_the_structure_after_the_last(rt: HostRuntime) -> Result<(), Fail> {
     let mut out = Bytes::from_vec(SQUARE[..62].to_vec(rt.alloc())?);
