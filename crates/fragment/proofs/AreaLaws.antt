@@ -10,7 +10,7 @@ use Rattle.outline_model.specs.declared.fragment.Fragment.{Fragment}
 use Rattle.outline_model.specs.Limits.{IsFragmentList, IsPlacedFragment}
 use Rattle.outline_model.specs.Near.{IsWithinReach}
 use Rattle.outline_model.specs.Outline.{fragment_at, is_vertical}
-use Rattle.fragment.specs.Index.{AreEnclosed, IsIndex, IsInside, IsShrunk, NoneMet, area_at, area_of, areas_of, is_met, reaches}
+use Rattle.fragment.specs.Index.{AreEnclosed, AreNested, IsInside, IsShrunk, NoneMet, area_at, area_of, areas_of, is_met, reaches}
 
 -- ---- the area of a fragment
 
@@ -63,6 +63,12 @@ reaches_true a r e f g h = by (int_le r.x0 a.x1) (int_lt a.x0 r.x1) (int_le r.y0
     by true true false v i j k l = absurd (omega (arith, ints))
     by true true true false i j k l = absurd (omega (arith, ints))
 
+inside_more : (a b c : Rect) → IsInside a b → IsInside b c → IsInside a c
+inside_more a b c e f =
+    let left = e.left in let below = e.below in let right = e.right in let above = e.above in
+    let left' = f.left in let below' = f.below in let right' = f.right in let above' = f.above in
+    record { left = omega (arith, ints); below = omega (arith, ints); right = omega (arith, ints); above = omega (arith, ints) }
+
 -- where the outer area has no pixel of the rectangle, the inner one has none
 pub misses_inside : (inner outer r : Rect) → IsInside inner outer → reaches outer r ≡ false → reaches inner r ≡ false
 misses_inside inner outer r inside none = by (int_le r.x0 inner.x1) (int_lt inner.x0 r.x1) (int_le r.y0 inner.y1) (int_lt inner.y0 r.y1) refl refl refl refl
@@ -80,15 +86,15 @@ misses_inside inner outer r inside none = by (int_le r.x0 inner.x1) (int_lt inne
         absurd (true_false (sym (reaches_true outer r (omega (arith, ints)) (omega (arith, ints)) (omega (arith, ints)) (omega (arith, ints))) ∙ none))
 
 -- A fragment within reach of a pixel of the rectangle is met by the rectangle that is smaller by what the reach lacks.
-pub is_met_within : (fs : List Fragment) (r s : Rect) (reach margin : ℤ) (k : ℕ) (x y : ℤ) → IsShrunk r margin s → (reach +ℤ margin) ≡ pos 128
-    → rect_cover r x y ≡ true → IsWithinReach (fragment_at fs k) reach x y → is_met fs s k ≡ true
-is_met_within fs r s reach margin k x y shrunk whole covered near =
+pub area_met_within : (fs : List Fragment) (r s : Rect) (reach margin : ℤ) (k : ℕ) (x y : ℤ) → IsShrunk r margin s → (reach +ℤ margin) ≡ pos 128
+    → rect_cover r x y ≡ true → IsWithinReach (fragment_at fs k) reach x y → reaches (area_of (fragment_at fs k)) s ≡ true
+area_met_within fs r s reach margin k x y shrunk whole covered near =
     by (int_le r.x0 x) (int_lt x r.x1) (int_le r.y0 y) (int_lt y r.y1) refl refl refl refl covered (is_vertical (fragment_at fs k).side) refl
   where
     false_true : false ≡ true → ⊥
     false_true e = cc e
 
-    met : (v : Bool) → is_vertical (fragment_at fs k).side ≡ v → r.x0 ≤ℤ x → x <ℤ r.x1 → r.y0 ≤ℤ y → y <ℤ r.y1 → is_met fs s k ≡ true
+    met : (v : Bool) → is_vertical (fragment_at fs k).side ≡ v → r.x0 ≤ℤ x → x <ℤ r.x1 → r.y0 ≤ℤ y → y <ℤ r.y1 → reaches (area_of (fragment_at fs k)) s ≡ true
     met true v e f g h =
         let a = shrunk.left in let b = shrunk.below in let c = shrunk.right in let d = shrunk.above in
         let area_is : area_of (fragment_at fs k) ≡ upright_area (fragment_at fs k) = ap (λ (t : Bool). if t then upright_area (fragment_at fs k) else level_area (fragment_at fs k)) v in
@@ -109,7 +115,7 @@ is_met_within fs r s reach margin k x y shrunk whole covered near =
         ∙ reaches_true (level_area (fragment_at fs k)) s (omega (arith, ints)) (omega (arith, ints)) (omega (arith, ints)) (omega (arith, ints))
 
     by : (p q u v : Bool) → int_le r.x0 x ≡ p → int_lt x r.x1 ≡ q → int_le r.y0 y ≡ u → int_lt y r.y1 ≡ v → ((p && q) && u) && v ≡ true
-        → (w : Bool) → is_vertical (fragment_at fs k).side ≡ w → is_met fs s k ≡ true
+        → (w : Bool) → is_vertical (fragment_at fs k).side ≡ w → reaches (area_of (fragment_at fs k)) s ≡ true
     by true true true true i j g l c w is = met w is (omega (arith, ints)) (omega (arith, ints)) (omega (arith, ints)) (omega (arith, ints))
     by false q u v i j g l c w is = absurd (false_true c)
     by true false u v i j g l c w is = absurd (false_true c)
@@ -119,65 +125,64 @@ is_met_within fs r s reach margin k x y shrunk whole covered near =
 not_shrunk : (r : Rect) → IsShrunk r (pos 0) r
 not_shrunk r = record { left = omega (arith, ints); below = omega (arith, ints); right = omega (arith, ints); above = omega (arith, ints) }
 
--- a fragment within 128 of a pixel of the rectangle is met
-pub is_met_near : (fs : List Fragment) (r : Rect) (k : ℕ) (x y : ℤ) → rect_cover r x y ≡ true → IsWithinReach (fragment_at fs k) (pos 128) x y → is_met fs r k ≡ true
-is_met_near fs r k x y covered near = is_met_within fs r r (pos 128) (pos 0) k x y (not_shrunk r) refl covered near
-
--- ---- what an index leaves out
-
-length-areas : (fs : List Fragment) → length (areas_of fs) ≡ length fs
+pub length-areas : (fs : List Fragment) → length (areas_of fs) ≡ length fs
 length-areas fs = length-map fs area_of
 
-block_misses : (fs : List Fragment) (blocks groups : List Rect) (r : Rect) (j : ℕ) → IsIndex fs blocks groups → j < length fs
-    → reaches (area_at blocks (j / 16)) r ≡ false → is_met fs r j ≡ false
-block_misses fs blocks groups r j index below none =
-    let all = length-areas fs in
-    let inside = (index.blocks_enclose j (omega arith)).1 in
-    let at : area_at (areas_of fs) j ≡ area_of (fragment_at fs j) = get_or-map area_of fs j _ _ below in
-    misses_inside (area_of (fragment_at fs j)) (area_at blocks (j / 16)) r (subst (λ a. IsInside a (area_at blocks (j / 16))) at inside) none
+area_is : (fs : List Fragment) (k : ℕ) → k < length fs → area_at (areas_of fs) k ≡ area_of (fragment_at fs k)
+area_is fs k below = get_or-map area_of fs k _ _ below
 
-pub block_missed : (fs : List Fragment) (blocks groups : List Rect) (r : Rect) (k : ℕ) → IsIndex fs blocks groups → k % 16 ≡ 0
-    → reaches (area_at blocks (k / 16)) r ≡ false → NoneMet fs r k 16
-block_missed fs blocks groups r k index even none j from below within =
-    let same : k / 16 ≡ j / 16 = omega arith in
-    block_misses fs blocks groups r j index within (subst (λ i. reaches (area_at blocks i) r ≡ false) same none)
+-- among the areas of the fragments, those of fragments within reach are met by the rectangle that is smaller by what the reach lacks
+pub is_met_within : (fs : List Fragment) (r s : Rect) (reach margin : ℤ) (k : ℕ) (x y : ℤ) → IsShrunk r margin s → (reach +ℤ margin) ≡ pos 128 → k < length fs
+    → rect_cover r x y ≡ true → IsWithinReach (fragment_at fs k) reach x y → is_met (areas_of fs) s k ≡ true
+is_met_within fs r s reach margin k x y shrunk whole below covered near =
+    ap (λ a. reaches a s) (area_is fs k below) ∙ area_met_within fs r s reach margin k x y shrunk whole covered near
 
-pub group_missed : (fs : List Fragment) (blocks groups : List Rect) (r : Rect) (k : ℕ) → IsIndex fs blocks groups → k % 256 ≡ 0
-    → reaches (area_at groups (k / 16 / 16)) r ≡ false → NoneMet fs r k 256
-group_missed fs blocks groups r k index even none j from below within =
-    let all = length-areas fs in
-    let same : k / 16 / 16 ≡ j / 16 / 16 = omega arith in
-    let in_block : j / 16 < length blocks = (index.blocks_enclose j (omega arith)).0 in
-    block_misses fs blocks groups r j index within
-    (misses_inside (area_at blocks (j / 16)) (area_at groups (j / 16 / 16)) r (index.groups_enclose (j / 16) in_block).1
-    (subst (λ i. reaches (area_at groups i) r ≡ false) same none))
+-- a fragment within 128 of a pixel of the rectangle is met
+pub is_met_near : (fs : List Fragment) (r : Rect) (k : ℕ) (x y : ℤ) → k < length fs → rect_cover r x y ≡ true → IsWithinReach (fragment_at fs k) (pos 128) x y
+    → is_met (areas_of fs) r k ≡ true
+is_met_near fs r k x y below covered near = is_met_within fs r r (pos 128) (pos 0) k x y (not_shrunk r) refl below covered near
 
-pub one_missed : (fs : List Fragment) (r : Rect) (k : ℕ) → is_met fs r k ≡ false → NoneMet fs r k 1
-one_missed fs r k none j from below within = let same : k ≡ j = omega arith in subst (λ i. is_met fs r i ≡ false) same none
+-- ---- what areas round many leave out
 
-pub block_within : (fs : List Fragment) (blocks groups : List Rect) (k : ℕ) → IsIndex fs blocks groups → k < length fs
-    → (k / 16 < length blocks) × (k / 16 / 16 < length groups)
-block_within fs blocks groups k index below =
-    let all = length-areas fs in
-    let first = (index.blocks_enclose k (omega arith)).0 in
-    (first, (index.groups_enclose (k / 16) first).0)
+-- so many areas stand under one of a level
+abbrev AreRound : ℕ → List Rect → List Rect → Type 0
+AreRound span areas outer = (k : ℕ) → k < length areas → (k / span < length outer) × IsInside (area_at areas k) (area_at outer (k / span))
 
-pub none_more : (fs : List Fragment) (r : Rect) (from k count : ℕ)
-    → ((j : ℕ) → from ≤ j → j < k → j < length fs → is_met fs r j ≡ false) → NoneMet fs r k count
-    → (j : ℕ) → from ≤ j → j < k + count → j < length fs → is_met fs r j ≡ false
-none_more fs r from k count before here j low high within = by (nat_lt j k) refl
+round_missed : (span : ℕ) (areas outer : List Rect) (r : Rect) (k : ℕ) → ((j : ℕ) → k ≤ j → j < k + span → k / span ≡ j / span) → AreRound span areas outer
+    → reaches (area_at outer (k / span)) r ≡ false → NoneMet areas r k span
+round_missed span areas outer r k same round none j from below within =
+    misses_inside (area_at areas j) (area_at outer (j / span)) r (round j within).1
+    (subst (λ i. reaches (area_at outer i) r ≡ false) (same j from below) none)
+
+groups_round : (areas blocks groups clusters : List Rect) → AreNested areas blocks groups clusters → AreRound 256 areas groups
+groups_round areas blocks groups clusters nested k below =
+    let block = nested.blocks_enclose k below in
+    let group = nested.groups_enclose (k / 16) block.0 in
+    let same : k / 16 / 16 ≡ k / 256 = omega arith in
+    subst (λ i. (i < length groups) × IsInside (area_at areas k) (area_at groups i)) same
+    (group.0, inside_more (area_at areas k) (area_at blocks (k / 16)) (area_at groups (k / 16 / 16)) block.1 group.1)
+
+clusters_round : (areas blocks groups clusters : List Rect) → AreNested areas blocks groups clusters → AreRound 4096 areas clusters
+clusters_round areas blocks groups clusters nested k below =
+    let group = groups_round areas blocks groups clusters nested k below in
+    let cluster = nested.clusters_enclose (k / 256) group.0 in
+    let same : k / 256 / 16 ≡ k / 4096 = omega arith in
+    subst (λ i. (i < length clusters) × IsInside (area_at areas k) (area_at clusters i)) same
+    (cluster.0, inside_more (area_at areas k) (area_at groups (k / 256)) (area_at clusters (k / 256 / 16)) group.1 cluster.1)
+
+pub one_missed : (areas : List Rect) (r : Rect) (k : ℕ) → is_met areas r k ≡ false → NoneMet areas r k 1
+one_missed areas r k none j from below within = let same : k ≡ j = omega arith in subst (λ i. is_met areas r i ≡ false) same none
+
+pub none_more : (areas : List Rect) (r : Rect) (from k count : ℕ)
+    → ((j : ℕ) → from ≤ j → j < k → j < length areas → is_met areas r j ≡ false) → NoneMet areas r k count
+    → (j : ℕ) → from ≤ j → j < k + count → j < length areas → is_met areas r j ≡ false
+none_more areas r from k count before here j low high within = by (nat_lt j k) refl
   where
-    by : (t : Bool) → nat_lt j k ≡ t → is_met fs r j ≡ false
+    by : (t : Bool) → nat_lt j k ≡ t → is_met areas r j ≡ false
     by true e = let h : j < k = (Decides-ltb j k).0 e in before j low h within
     by false e = let h = not_from_Decides _ (Decides-ltb j k) e in here j (omega arith) high within
 
 -- ---- how the index is made
-
-inside_more : (a b c : Rect) → IsInside a b → IsInside b c → IsInside a c
-inside_more a b c e f =
-    let left = e.left in let below = e.below in let right = e.right in let above = e.above in
-    let left' = f.left in let below' = f.below in let right' = f.right in let above' = f.above in
-    record { left = omega (arith, ints); below = omega (arith, ints); right = omega (arith, ints); above = omega (arith, ints) }
 
 pub round_more : (areas : List Rect) (old new : Rect) (first k : ℕ) → ((j : ℕ) → first ≤ j → j < k → IsInside (area_at areas j) old)
     → IsInside old new → IsInside (area_at areas k) new → (j : ℕ) → first ≤ j → j < k + 1 → IsInside (area_at areas j) new
@@ -217,34 +222,46 @@ enclosed_all areas outer i blocks all k below = let count = blocks.count in (ome
 
 -- ---- as the code reads it
 
-pub group_missed_at : (fs now : List Fragment) (blocks groups : List Rect) (r a : Rect) (k : ℕ) → fs ≡ now → IsIndex fs blocks groups → k < length now
-    → k % 256 ≡ 0 → a ≡ get_or groups (k / 16 / 16) a → reaches a r ≡ false → NoneMet now r k 256
-group_missed_at fs now blocks groups r a k same index below even is none =
-    let here : k < length fs = subst (λ (l : List Fragment). k < length l) (sym same) below in
-    let inside = (block_within fs blocks groups k index here).1 in
-    let at : a ≡ area_at groups (k / 16 / 16) = is ∙ get_or_default groups (k / 16 / 16) a _ inside in
-    subst (λ l. NoneMet l r k 256) same (group_missed fs blocks groups r k index even (subst (λ b. reaches b r ≡ false) at none))
-
-pub block_missed_at : (fs now : List Fragment) (blocks groups : List Rect) (r a : Rect) (k : ℕ) → fs ≡ now → IsIndex fs blocks groups → k < length now
+pub block_missed_at : (areas now blocks groups clusters : List Rect) (r a : Rect) (k : ℕ) → areas ≡ now → AreNested areas blocks groups clusters → k < length now
     → k % 16 ≡ 0 → a ≡ get_or blocks (k / 16) a → reaches a r ≡ false → NoneMet now r k 16
-block_missed_at fs now blocks groups r a k same index below even is none =
-    let here : k < length fs = subst (λ (l : List Fragment). k < length l) (sym same) below in
-    let inside = (block_within fs blocks groups k index here).0 in
-    let at : a ≡ area_at blocks (k / 16) = is ∙ get_or_default blocks (k / 16) a _ inside in
-    subst (λ l. NoneMet l r k 16) same (block_missed fs blocks groups r k index even (subst (λ b. reaches b r ≡ false) at none))
+block_missed_at areas now blocks groups clusters r a k same nested below even is none =
+    let here : k < length areas = subst (λ (l : List Rect). k < length l) (sym same) below in
+    let at : a ≡ area_at blocks (k / 16) = is ∙ get_or_default blocks (k / 16) a _ (nested.blocks_enclose k here).0 in
+    subst (λ l. NoneMet l r k 16) same
+    (round_missed 16 areas blocks r k (λ j from past. omega arith) nested.blocks_enclose (subst (λ b. reaches b r ≡ false) at none))
 
--- whether a fragment is met is whether its area reaches the rectangle
-pub met_at : (fs now : List Fragment) (f : Fragment) (r a : Rect) (t : Bool) (k : ℕ) → fs ≡ now → k < length now
-    → f ≡ get_or fs k f → a ≡ area_of f → reaches a r ≡ t → is_met now r k ≡ t
-met_at fs now f r a t k same below is area_is tells =
-    let here : k < length fs = subst (λ (l : List Fragment). k < length l) (sym same) below in
-    let at : f ≡ fragment_at fs k = is ∙ get_or_default fs k f _ here in
-    subst (λ l. is_met l r k ≡ t) same
-    (ap (λ g. reaches (area_of g) r) (sym at) ∙ ap (λ b. reaches b r) (sym area_is) ∙ tells)
+pub group_missed_at : (areas now blocks groups clusters : List Rect) (r a : Rect) (k : ℕ) → areas ≡ now → AreNested areas blocks groups clusters → k < length now
+    → k % 256 ≡ 0 → a ≡ get_or groups (k / 16 / 16) a → reaches a r ≡ false → NoneMet now r k 256
+group_missed_at areas now blocks groups clusters r a k same nested below even is none =
+    let here : k < length areas = subst (λ (l : List Rect). k < length l) (sym same) below in
+    let round = groups_round areas blocks groups clusters nested in
+    let place : k / 16 / 16 ≡ k / 256 = omega arith in
+    let at : a ≡ area_at groups (k / 256) = is ∙ ap (λ i. get_or groups i a) place ∙ get_or_default groups (k / 256) a _ (round k here).0 in
+    subst (λ l. NoneMet l r k 256) same
+    (round_missed 256 areas groups r k (λ j from past. omega arith) round (subst (λ b. reaches b r ≡ false) at none))
 
-pub placed_value : (fs : List Fragment) (now : List Fragment) (f : Fragment) (k : ℕ) → fs ≡ now → IsFragmentList fs → k < length now
-    → f ≡ get_or fs k f → IsPlacedFragment f
-placed_value fs now f k same list below is =
-    let here : k < length fs = subst (λ (l : List Fragment). k < length l) (sym same) below in
-    let at : f ≡ fragment_at fs k = is ∙ get_or_default fs k f _ here in
-    subst IsPlacedFragment (sym at) (placed_at fs k list here)
+pub cluster_missed_at : (areas now blocks groups clusters : List Rect) (r a : Rect) (k : ℕ) → areas ≡ now → AreNested areas blocks groups clusters → k < length now
+    → k % 4096 ≡ 0 → a ≡ get_or clusters (k / 16 / 16 / 16) a → reaches a r ≡ false → NoneMet now r k 4096
+cluster_missed_at areas now blocks groups clusters r a k same nested below even is none =
+    let here : k < length areas = subst (λ (l : List Rect). k < length l) (sym same) below in
+    let round = clusters_round areas blocks groups clusters nested in
+    let place : k / 16 / 16 / 16 ≡ k / 4096 = omega arith in
+    let at : a ≡ area_at clusters (k / 4096) = is ∙ ap (λ i. get_or clusters i a) place ∙ get_or_default clusters (k / 4096) a _ (round k here).0 in
+    subst (λ l. NoneMet l r k 4096) same
+    (round_missed 4096 areas clusters r k (λ j from past. omega arith) round (subst (λ b. reaches b r ≡ false) at none))
+
+pub nested_within : (areas now blocks groups clusters : List Rect) (k : ℕ) → areas ≡ now → AreNested areas blocks groups clusters → k < length now
+    → (k / 16 < length blocks) × (k / 16 / 16 < length groups) × (k / 16 / 16 / 16 < length clusters)
+nested_within areas now blocks groups clusters k same nested below =
+    let here : k < length areas = subst (λ (l : List Rect). k < length l) (sym same) below in
+    let block = (nested.blocks_enclose k here).0 in
+    let group = (nested.groups_enclose (k / 16) block).0 in
+    (block, group, (nested.clusters_enclose (k / 16 / 16) group).0)
+
+-- whether an area is met is whether it reaches the rectangle
+pub met_at : (areas now : List Rect) (r a : Rect) (t : Bool) (k : ℕ) → areas ≡ now → k < length now
+    → a ≡ get_or areas k a → reaches a r ≡ t → is_met now r k ≡ t
+met_at areas now r a t k same below is tells =
+    let here : k < length areas = subst (λ (l : List Rect). k < length l) (sym same) below in
+    let at : a ≡ area_at areas k = is ∙ get_or_default areas k a _ here in
+    subst (λ l. is_met l r k ≡ t) same (ap (λ b. reaches b r) (sym at) ∙ tells)

@@ -1,9 +1,11 @@
 -- How fragments near a rectangle are found.
 use Rattle.std.specs.Prelude.{◌≡◌, ℕ, zero, suc, ◌+◌, ◌-◌, ◌/◌, ◌<◌, ◌≤◌, ℤ, pos, ◌+ℤ◌, ◌-ℤ◌, ◌≤ℤ◌, int_le, int_lt, Bool, true, false, ◌&&◌, if◌then◌else◌, Option, MatchOption, List, [], ◌∷◌, length, get_or, filter, map}
+use Rattle.std.specs.List.{range_with_len}
+use Rattle.std.specs.List.Sorted.{IsPermutation}
 use Rattle.opc_base.specs.declared.plane.Rect.{Rect}
 use Rattle.outline_model.specs.declared.fragment.Fragment.{Fragment}
 use Rattle.outline_model.specs.Limits.{IsFragmentList}
-use Rattle.outline_model.specs.Outline.{fragment_at, is_vertical}
+use Rattle.outline_model.specs.Outline.{is_vertical}
 
 -- the points within 128 of a fragment's piece on the target: x from x0 to x1 and y from y0 to y1, both included
 abbrev pub area_of : Fragment → Rect
@@ -23,24 +25,31 @@ pub record IsShrunk (r : Rect) (margin : ℤ) (s : Rect) : Type 0 where
   pub right : (r.x1 -ℤ margin) ≤ℤ s.x1
   pub above : (r.y1 -ℤ margin) ≤ℤ s.y1
 
-abbrev pub is_met : List Fragment → Rect → ℕ → Bool
-is_met fs rect k = reaches (area_of (fragment_at fs k)) rect
+abbrev pub area_at : List Rect → ℕ → Rect
+area_at areas k = get_or areas k (record { x0 = pos 0; y0 = pos 0; x1 = pos 0; y1 = pos 0 })
+
+abbrev pub is_met : List Rect → Rect → ℕ → Bool
+is_met areas rect k = reaches (area_at areas k) rect
 
 -- n numbers from `from` on
 abbrev pub numbers : ℕ → ℕ → List ℕ
 numbers from zero = []
 numbers from (suc n) = from ∷ numbers (suc from) n
 
--- the fragments from one number on that are met
-abbrev pub met_from : List Fragment → Rect → ℕ → List ℕ
-met_from fs rect from = filter (is_met fs rect) (numbers from (length fs - from))
+-- the areas from one number on that are met
+abbrev pub met_from : List Rect → Rect → ℕ → List ℕ
+met_from areas rect from = filter (is_met areas rect) (numbers from (length areas - from))
 
 -- the first of them
-abbrev pub IsFirstMet : List Fragment → Rect → ℕ → Option ℕ → Type 0
-IsFirstMet fs rect from found =
+abbrev pub IsFirstMet : List Rect → Rect → ℕ → Option ℕ → Type 0
+IsFirstMet areas rect from found =
     MatchOption found
-    ((j : ℕ) → from ≤ j → j < length fs → is_met fs rect j ≡ false)
-    (λ k. (from ≤ k) × (k < length fs) × (is_met fs rect k ≡ true) × ((j : ℕ) → from ≤ j → j < k → is_met fs rect j ≡ false))
+    ((j : ℕ) → from ≤ j → j < length areas → is_met areas rect j ≡ false)
+    (λ k. (from ≤ k) × (k < length areas) × (is_met areas rect k ≡ true) × ((j : ℕ) → from ≤ j → j < k → is_met areas rect j ≡ false))
+
+-- none of so many areas from k on is met
+abbrev pub NoneMet : List Rect → Rect → ℕ → ℕ → Type 0
+NoneMet areas rect k count = (j : ℕ) → k ≤ j → j < k + count → j < length areas → is_met areas rect j ≡ false
 
 -- ---- areas round many
 
@@ -50,9 +59,6 @@ pub record IsInside (inner outer : Rect) : Type 0 where
   pub right : inner.x1 ≤ℤ outer.x1
   pub above : inner.y1 ≤ℤ outer.y1
 
-abbrev pub area_at : List Rect → ℕ → Rect
-area_at areas k = get_or areas k (record { x0 = pos 0; y0 = pos 0; x1 = pos 0; y1 = pos 0 })
-
 -- each 16 areas have one round them
 abbrev pub AreEnclosed : List Rect → List Rect → Type 0
 AreEnclosed areas outer = (k : ℕ) → k < length areas → (k / 16 < length outer) × IsInside (area_at areas k) (area_at outer (k / 16))
@@ -60,12 +66,29 @@ AreEnclosed areas outer = (k : ℕ) → k < length areas → (k / 16 < length ou
 abbrev pub areas_of : List Fragment → List Rect
 areas_of fs = map area_of fs
 
--- fragments, an area round each 16 of them, and one round each 16 of these
-pub record IsIndex (fs : List Fragment) (blocks groups : List Rect) : Type 0 where
-  pub list : IsFragmentList fs
-  pub blocks_enclose : AreEnclosed (areas_of fs) blocks
+-- areas, one round each 16 of them, one round each 16 of these, and one round each 16 of these
+pub record AreNested (areas blocks groups clusters : List Rect) : Type 0 where
+  pub few : length areas ≤ 32768
+  pub blocks_enclose : AreEnclosed areas blocks
   pub groups_enclose : AreEnclosed blocks groups
+  pub clusters_enclose : AreEnclosed groups clusters
 
--- none of so many fragments from k on is met
-abbrev pub NoneMet : List Fragment → Rect → ℕ → ℕ → Type 0
-NoneMet fs rect k count = (j : ℕ) → k ≤ j → j < k + count → j < length fs → is_met fs rect j ≡ false
+-- ---- fragments by number and by place
+
+-- each number below n once
+abbrev pub IsOrder : ℕ → List ℕ → Type 0
+IsOrder n order = IsPermutation (range_with_len 0 n) order
+
+abbrev pub in_order : List Rect → List ℕ → List Rect
+in_order areas order = map (area_at areas) order
+
+-- fragments, their areas, and these in another order
+pub record IsIndex (fs : List Fragment) (by_number by_place : List Rect) (order : List ℕ) : Type 0 where
+  pub list : IsFragmentList fs
+  pub number : by_number ≡ areas_of fs
+  pub place : by_place ≡ in_order (areas_of fs) order
+  pub all : IsOrder (length fs) order
+
+-- the numbers of the areas that are met from one place on
+abbrev pub within_from : List Rect → List ℕ → Rect → ℕ → List ℕ
+within_from areas order rect from = map (λ k. get_or order k 0) (met_from areas rect from)

@@ -1,17 +1,15 @@
 //! Areas of the plane: x from `x0` to `x1` and y from `y0` to `y1`, both included.
 ghost use Rattle.std.specs.Prelude.{◌≡◌, ◌+◌, ◌*◌, ◌<◌, ◌≤◌, ◌≤ℤ◌, ◌+ℤ◌, ◌-ℤ◌, ℕ, pos, All, IfOk, length};
-ghost use Rattle.fragment.specs.Index.{AreEnclosed, IsInside, IsShrunk, area_at, area_of, areas_of, reaches};
+ghost use Rattle.fragment.specs.Index.{AreEnclosed, IsInside, IsShrunk, area_at, area_of, areas_of, in_order, reaches};
 ghost use Rattle.outline_model.specs.Limits.{IsPlacedFragment};
 
+use crate::area_tree::BLOCK;
 use opc_base::{NoMemory, Rect};
 use outline_model::{Fragment, is_vertical};
 use std::alloc::Global;
 
 /// How far around a fragment's piece on the target its moves can matter, in pixels.
 pub const REACH: i32 = 128;
-
-/// The areas that have one area round them.
-pub const BLOCK: usize = 16;
 
 /// The area within 128 of a fragment's piece on the target.
 pub fn area_of(fragment: &Fragment) -> Rect
@@ -92,6 +90,18 @@ pub fn areas_of(alloc: Global, fragments: &[Fragment]) -> Result<Vec<Rect>, NoMe
         areas.push(area_of(fragment))?;
     }
     Ok(areas)
+}
+
+/// The areas of these numbers.
+pub fn in_order(alloc: Global, areas: &[Rect], order: &[u32]) -> Result<Vec<Rect>, NoMemory>
+    requires { All (λ k. k < length areas.now) order.now }
+    ensures { IfOk result (λ placed. placed.items ≡ in_order areas.now order.now) }
+{
+    let mut placed = Vec::with_capacity(alloc, order.len())?;
+    for k in order {
+        placed.push(areas[*k as usize])?;
+    }
+    Ok(placed)
 }
 
 /// An area round each 16 areas.

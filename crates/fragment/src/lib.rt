@@ -14,6 +14,8 @@
 #![tactic(auto)]
 
 mod area;
+mod area_tree;
+mod curve;
 mod fragments;
 mod near;
 mod region_cut;
@@ -24,6 +26,6 @@ mod tests;
 
 pub use cutting::{CutFault, MAX_FRAGMENTS};
 pub use fragments::Fragments;
-pub use near::{Meets, Near};
+pub use near::{Meets, Near, Within};
 pub use outline_model::{Fragment, Join};
 pub use region_cut::cut;

@@ -1,12 +1,13 @@
 //! Finds the fragments near a rectangle.
-ghost use Rattle.std.specs.Prelude.{◌≡◌, ◌+◌, ◌<◌, ◌≤◌, ◌≤ℤ◌, ℕ, ℤ, pos, All, Contains, IfOk, length, true};
+ghost use Rattle.std.specs.Prelude.{◌≡◌, ◌<◌, ◌≤◌, ◌≤ℤ◌, ℕ, ℤ, pos, All, Contains, IfOk, length, true};
 ghost use Rattle.std.specs.List.Sorted.{IsStrictlyIncreasing};
-ghost use Rattle.fragment.specs.Index.{IsFirstMet, NoneMet, is_met, met_from};
 ghost use Rattle.opc_base.specs.Plane.{rect_cover};
 ghost use Rattle.outline_model.specs.Near.{IsWithinReach};
 ghost use Rattle.outline_model.specs.Outline.{fragment_at};
 
-use crate::area::{BLOCK, REACH, area_of, areas_of, enclose, reaches, shrunk};
+use crate::area::{REACH, areas_of, in_order, shrunk};
+use crate::area_tree::AreaTree;
+use crate::curve::order_of;
 use crate::fragments::Fragments;
 use opc_base::{NoMemory, Rect};
 use outline_model::Fragment;
@@ -15,13 +16,15 @@ use std::marker::Model;
 
 /// An index of fragments by where their pieces lie on the target, right for all offsets.
 ///
-/// Fragments are numbered along the target's edges, so those of near numbers lie near one another: an area round each 16
-/// fragments, and one round each 16 of these, leave out most of what is far.
+/// Areas round the pieces stand in two orders: by the numbers of the fragments, for `meets`, and along a curve through the
+/// plane, for `within`. Fragments of near numbers lie near one another along an edge alone, and those of near places on the
+/// curve on all sides, so that the areas round many of them leave out most of what is far.
 #[derive(Debug, Drop)]
 pub struct Near {
     fragments: Vec<Fragment>,
-    blocks: Vec<Rect>,
-    groups: Vec<Rect>,
+    by_number: AreaTree,
+    by_place: AreaTree,
+    order: Vec<u32>,
 }
 
 impl Model for Near {
@@ -33,7 +36,7 @@ impl Model for Near {
 
     ghost view = { λ n. n.fragments.items };
 
-    ghost invariant = { λ n. IsIndex n.fragments.items n.blocks.items n.groups.items };
+    ghost invariant = { λ n. IsIndex n.fragments.items n.by_number n.by_place n.order.items };
 }
 
 impl Near {
@@ -43,12 +46,15 @@ impl Near {
     {
         let items = fragments.copy_items(alloc)?;
         let areas = areas_of(alloc, &items)?;
-        let blocks = enclose(alloc, &areas)?;
-        let groups = enclose(alloc, &blocks)?;
+        let order = order_of(alloc, &areas)?;
+        let placed = in_order(alloc, &areas, &order)?;
+        let by_number = AreaTree::build(alloc, areas)?;
+        let by_place = AreaTree::build(alloc, placed)?;
         Ok(Near {
             fragments: items,
-            blocks,
-            groups,
+            by_number,
+            by_place,
+            order,
         })
     }
 
@@ -60,74 +66,31 @@ impl Near {
             → IsWithinReach (fragment_at self.now k) (pos 128) x y → Contains result k }
         ensures few { length self.now ≤ 32768 }
     {
-        let _ = self.count();
+        let _ = self.fragments.len();
         Meets {
-            near: self,
+            areas: &self.by_number,
             rect: *rect,
             from: 0,
         }
     }
 
-    /// The numbers of fragments whose piece on the target comes within `reach` pixels of the rectangle, in ascending order.
+    /// The numbers of fragments whose piece on the target comes within `reach` pixels of the rectangle, in any order.
     /// A fragment is no further from its piece than its offset, so this finds what is near where no offset is greater.
-    pub fn meets_within<'a>(&'a self, rect: &Rect, reach: i32) -> Meets<'a>
+    pub fn within<'a>(&'a self, rect: &Rect, reach: i32) -> Within<'a>
         requires least { pos 0 ≤ℤ reach }
         requires most { reach ≤ℤ pos 128 }
-        ensures ascending { IsStrictlyIncreasing result }
         ensures below { All (λ k. k < length self.now) result }
         ensures complete { (k : ℕ) (x y : ℤ) → k < length self.now → rect_cover rect.now x y ≡ true
             → IsWithinReach (fragment_at self.now k) reach x y → Contains result k }
         ensures few { length self.now ≤ 32768 }
     {
-        let _ = self.count();
+        let _ = self.fragments.len();
         let rect = shrunk(rect, REACH - reach);
-        Meets {
-            near: self,
+        Within {
+            areas: &self.by_place,
+            order: &self.order,
             rect,
             from: 0,
-        }
-    }
-
-    fn count(&self) -> usize
-        ensures count { result ≡ length self.now }
-        ensures few { result ≤ 32768 }
-    {
-        self.fragments.len()
-    }
-
-    /// The first fragment from a number on that is met.
-    fn first_met(&self, rect: &Rect, from: u32) -> Option<u32>
-        requires { from ≤ 32768 }
-        ensures first { IsFirstMet self.now rect.now from result }
-        ensures few { length self.now ≤ 32768 }
-    {
-        let count = self.count();
-        let mut k = from as usize;
-        while k < count {
-            let missed = self.missed_from(rect, k);
-            if missed == 0 {
-                return Some(k as u32);
-            }
-            k += missed;
-        }
-        None
-    }
-
-    /// So many fragments from this one on are not met. 0 where this one is.
-    fn missed_from(&self, rect: &Rect, k: usize) -> usize
-        requires { k < length self.now }
-        ensures few { result ≤ 256 }
-        ensures missed { NoneMet self.now rect.now k result }
-        ensures met { result ≡ 0 → is_met self.now rect.now k ≡ true }
-    {
-        if k % (BLOCK * BLOCK) == 0 && !reaches(&self.groups[k / BLOCK / BLOCK], rect) {
-            BLOCK * BLOCK
-        } else if k % BLOCK == 0 && !reaches(&self.blocks[k / BLOCK], rect) {
-            BLOCK
-        } else if reaches(&area_of(&self.fragments[k]), rect) {
-            0
-        } else {
-            1
         }
     }
 }
@@ -135,7 +98,7 @@ impl Near {
 /// The numbers that `Near::meets` gives.
 #[derive(Drop)]
 pub struct Meets<'a> {
-    near: &'a Near,
+    areas: &'a AreaTree,
     rect: Rect,
     from: u32,
 }
@@ -146,7 +109,7 @@ impl<'a> Model for Meets<'a> {
 
     ghost Value = { List ℕ };
 
-    ghost view = { λ m. met_from m.near.now m.rect m.from };
+    ghost view = { λ m. met_from m.areas.now m.rect m.from };
 
     ghost invariant = { λ m. m.from ≤ 32768 };
 }
@@ -161,12 +124,53 @@ impl<'a> Iterator for Meets<'a> {
     ghost remaining = { item_count (λ m. m) };
 
     fn next(&mut self) -> Option<u32> {
-        let near = self.near;
-        match near.first_met(&self.rect, self.from) {
+        let areas = self.areas;
+        match areas.first_met(&self.rect, self.from) {
             None => None,
             Some(k) => {
                 self.from = k + 1;
                 Some(k)
+            }
+        }
+    }
+}
+
+/// The numbers that `Near::within` gives.
+#[derive(Drop)]
+pub struct Within<'a> {
+    areas: &'a AreaTree,
+    order: &'a [u32],
+    rect: Rect,
+    from: u32,
+}
+
+impl<'a> Model for Within<'a> {
+    ghost use Rattle.std.specs.Prelude.{◌≡◌, ◌≤◌, List, ℕ, length};
+    ghost use Rattle.fragment.specs.Index.{within_from};
+
+    ghost Value = { List ℕ };
+
+    ghost view = { λ m. within_from m.areas.now m.order.now m.rect m.from };
+
+    ghost invariant = { λ m. (m.from ≤ 32768) × (length m.order.now ≡ length m.areas.now) };
+}
+
+impl<'a> Iterator for Within<'a> {
+    ghost use Rattle.std.specs.Iterator.{YieldsFirst, item_count};
+
+    type Item = u32;
+
+    ghost next_gives = { YieldsFirst (λ m. m) };
+
+    ghost remaining = { item_count (λ m. m) };
+
+    fn next(&mut self) -> Option<u32> {
+        let areas = self.areas;
+        match areas.first_met(&self.rect, self.from) {
+            None => None,
+            Some(k) => {
+                self.from = k + 1;
+                Some(self.order[k as usize])
             }
         }
     }

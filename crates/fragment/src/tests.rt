@@ -66,5 +66,7 @@ fn cuts_a_rectangle(rt: HostRuntime) -> Result<(), Fail> {
         y1: 1,
     };
     assert_eq!(rt; near.meets(&far).next(), None);
+    assert_eq!(rt; near.within(&far, 128).next(), None);
+    assert!(rt; near.within(&RECT, 0).next().is_some());
     Ok(())
 }

@@ -114,7 +114,7 @@ pub reaching : (o : Option Pix) (q : Pix) → ReachesUpTo o q → (p : Pix) × (
 reaching None q h = absurd h
 reaching (Some p) q h = (p, refl, h)
 
--- what `Near::meets_within` gives for a rectangle
+-- what `Near::within` gives for a rectangle
 pub record IsAllNear (fs : List Fragment) (reach : ℤ) (r : Rect) (numbers : List ℕ) : Type 0 where
   pub below : (k d : ℕ) → k < length numbers → get_or numbers k d < length fs
   pub complete : (k : ℕ) (x y : ℤ) → k < length fs → rect_cover r x y ≡ true → IsWithinReach (fragment_at fs k) reach x y → Contains numbers k

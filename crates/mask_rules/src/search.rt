@@ -81,7 +81,7 @@ fn found_of(outline: &Placement, near: &Near, rules: &MaskRules, vertical: bool,
     }
     let mut first = none_found();
     let reach = rules.width.max(rules.space);
-    for k in near.meets_within(&clash_area(reach, vertical, mine), outline.reach) {
+    for k in near.within(&clash_area(reach, vertical, mine), outline.reach) {
         let found = pair_found(outline, rules, vertical, mine, k);
         first = earlier_each(first, found);
     }

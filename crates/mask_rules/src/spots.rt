@@ -101,7 +101,7 @@ pub fn first_spots(
     let mut along = None;
     let mut begins = None;
     let mut ends = None;
-    for k in near.meets_within(rect, outline.reach) {
+    for k in near.within(rect, outline.reach) {
         let found = spots_of(outline, vertical, rect, opens, k);
         across = earlier(across, found.across);
         along = earlier(along, found.along);

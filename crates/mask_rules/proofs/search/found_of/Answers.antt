@@ -17,9 +17,9 @@ use Rattle.mask_rules.proofs.search.found_of.Goals as goal
 
 pub pair_found-found-requires-clause-k : goal.pair_found-found-requires-clause-k
 pair_found-found-requires-clause-k c =
-    let turn = YieldsList-turn (YieldsList-from_first (λ (k : ℕ). k) (λ (m : List ℕ). m) c.meets_within-k-items.result c.into_iter-k-iterator.ensures.into_iter_gives)
+    let turn = YieldsList-turn (YieldsList-from_first (λ (k : ℕ). k) (λ (m : List ℕ). m) c.within-k-items.result c.into_iter-k-iterator.ensures.into_iter_gives)
     c.loop-k.yielded _ c.loop-k.yielded_by _ _ c.in-Some.k c.in-Some.is c.next.ensures.steps in
-    let inside = c.meets_within-k-items.ensures.below (length c.loop-k.yielded) c.in-Some.k turn.0 in
+    let inside = c.within-k-items.ensures.below (length c.loop-k.yielded) c.in-Some.k turn.0 in
     subst (λ (l : List Fragment). c.in-Some.k < length l) c.requires.near (subst (λ n. n < length c.args.near.now) (sym turn.1) inside)
 
 pub returns-then-mine : goal.returns-then-mine
@@ -38,9 +38,9 @@ returns c =
     let p = c.args.outline.now in
     let r = c.args.rules.now in
     let fs = p.fragments.now in
-    let ended = YieldsList-end (YieldsList-from_first (λ (k : ℕ). k) (λ (m : List ℕ). m) c.meets_within-k-items.result c.into_iter-k-iterator.ensures.into_iter_gives)
+    let ended = YieldsList-end (YieldsList-from_first (λ (k : ℕ). k) (λ (m : List ℕ). m) c.within-k-items.result c.into_iter-k-iterator.ensures.into_iter_gives)
     c.loop-k.yielded _ c.loop-k.yielded_by _ _ c.in-None.is c.next.ensures.steps in
-    let all : c.loop-k.yielded ≡ c.meets_within-k-items.result = sym (map-id c.loop-k.yielded) ∙ ended.0 in
+    let all : c.loop-k.yielded ≡ c.within-k-items.result = sym (map-id c.loop-k.yielded) ∙ ended.0 in
     let line = line_of p in
     let v = c.args.vertical in
     let far = c.max-reach.result in
@@ -48,13 +48,13 @@ returns c =
     let mine_is : c.stretch-mine.result ≡ stretch_at fs line v c.args.c = c.stretch-mine.ensures.stretch in
     let around_is : c.clash_area.result ≡ clash_area far v (stretch_at fs line v c.args.c) = (simp to_z-of_z at c.clash_area.ensures) ∙ ap (clash_area far v) mine_is in
     let reach_fits : SFits w32 p.reach = search rules in
-    let reach_is = simp to_z-of_z at c.meets_within-k-items.ensures.complete in
-    let near_all : IsAllNear c.args.near.now p.reach c.clash_area.result c.meets_within-k-items.result =
-    record { below = c.meets_within-k-items.ensures.below; complete = reach_is } in
+    let reach_is = simp to_z-of_z at c.within-k-items.ensures.complete in
+    let near_all : IsAllNear c.args.near.now p.reach c.clash_area.result c.within-k-items.result =
+    record { below = c.within-k-items.ensures.below; complete = reach_is } in
     let near : IsAllNear fs p.reach (clash_area far v (stretch_at fs line v c.args.c)) c.loop-k.yielded =
     subst (IsAllNear fs p.reach (clash_area far v (stretch_at fs line v c.args.c))) (sym all)
-    (subst (λ (r : Rect). IsAllNear fs p.reach r c.meets_within-k-items.result) around_is
-    (subst (λ (l : List Fragment). IsAllNear l p.reach c.clash_area.result c.meets_within-k-items.result) c.requires.near near_all)) in
+    (subst (λ (r : Rect). IsAllNear fs p.reach r c.within-k-items.result) around_is
+    (subst (λ (l : List Fragment). IsAllNear l p.reach c.clash_area.result c.within-k-items.result) c.requires.near near_all)) in
     let first_is : c.loop-k.first ≡ each_from (λ k. pair_found r v (stretch_at fs line v c.args.c) (stretch_at fs line v k)) none_found c.loop-k.yielded =
     c.loop-k.invariant ∙ ap (λ s. each_from (λ k. pair_found r v s (stretch_at fs line v k)) none_found c.loop-k.yielded) mine_is in
     let width : r.width ≤ℤ far = omega (arith, ints, clamps) in

@@ -6,13 +6,13 @@ use Rattle.fragment.proofs.near.MeetsIterator.next.Goals as goal
 
 pub returns-in-None-clause-steps : goal.returns-in-None-clause-steps
 returns-in-None-clause-steps c =
-    steps_none c.self.inside.near.now c.self.inside.rect c.self.inside.from c.args.self.now c.first_met.result c.self.view_is c.first_met.ensures.first c.in-None.is
+    steps_none c.self.inside.areas.now c.self.inside.rect c.self.inside.from c.args.self.now c.first_met.result c.self.view_is c.first_met.ensures.first c.in-None.is
 
 pub returns-in-Some-clause-steps : goal.returns-in-Some-clause-steps
 returns-in-Some-clause-steps c =
-    steps_some c.self.inside.near.now c.self.inside.rect c.self.inside.from c.in-Some.k c.args.self.now c.first_met.result c.self.view_is c.first_met.ensures.first c.in-Some.is
+    steps_some c.self.inside.areas.now c.self.inside.rect c.self.inside.from c.in-Some.k c.args.self.now c.first_met.result c.self.view_is c.first_met.ensures.first c.in-Some.is
 
 pub returns-in-Some-clause-goes : goal.returns-in-Some-clause-goes
 returns-in-Some-clause-goes c =
-    let e : c.args.self.now ≡ c.in-Some.k ∷ met_from c.self.inside.near.now c.self.inside.rect (c.in-Some.k + 1) = returns-in-Some-clause-steps c in
+    let e : c.args.self.now ≡ c.in-Some.k ∷ met_from c.self.inside.areas.now c.self.inside.rect (c.in-Some.k + 1) = returns-in-Some-clause-steps c in
     rw e (search rules)

@@ -1,6 +1,6 @@
 use Rattle.std.proofs.Common.{arith}
 use Rattle.fragment.proofs.AreaLaws.{none_more}
-use Rattle.fragment.proofs.near.Near.first_met.Goals as goal
+use Rattle.fragment.proofs.area_tree.AreaTree.first_met.Goals as goal
 
 pub loop-k-init : goal.loop-k-init
 loop-k-init c = (omega arith, omega arith, λ j low high within. absurd (omega arith))
