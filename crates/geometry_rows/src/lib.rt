@@ -26,4 +26,6 @@ mod region_rows;
 #[cfg(test)]
 mod rows;
 pub mod shapes;
+#[cfg(test)]
+mod union_rows;
 pub mod written;

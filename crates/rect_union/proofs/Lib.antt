@@ -21,3 +21,4 @@ pub mod JoinLaws
 pub mod StripLaws
 pub mod CutLaws
 pub mod OrderLaws
+pub mod BoxLaws

@@ -16,3 +16,4 @@ pub mod Touches
 pub mod Joins
 pub mod Strips
 pub mod Cuts
+pub mod Boxes

@@ -1,8 +1,11 @@
 -- The state of a sweep.
-use Rattle.std.specs.Prelude.{◌≡◌, ℕ, ◌+◌, ◌<◌, ◌≤◌, ℤ, ◌+ℤ◌, ◌≤ℤ◌, int_le, int_lt, ◌&&◌, ◌||◌, List, length, get_or, take}
+use Rattle.std.specs.Prelude.{◌≡◌, ℕ, ◌+◌, ◌<◌, ◌≤◌, ℤ, ◌+ℤ◌, ◌≤ℤ◌, int_le, int_lt, ◌&&◌, ◌||◌, ⊤, List, length, get_or, take}
 use Rattle.rect_union.specs.declared.columns.Column.{Column}
 use Rattle.rect_union.specs.declared.quadrants.Quadrant.{Quadrant}
 use Rattle.rect_union.specs.declared.sweep.Sweep.{Sweep}
+use Rattle.rect_union.specs.declared.sweep.SweepEnd.{SweepEnd}
+use Rattle.rect_union.specs.declared.sweep.SweepEnd.TheVariants.{Swept, TooMany, TooLong}
+use Rattle.opc_base.specs.declared.plane.Rect.{Rect}
 use Rattle.rect_union.specs.Columns.{AreInOrder, HaveOwnersBelow, owner_count, owner_total, row_cover, weight_of}
 use Rattle.rect_union.specs.Merges.{AreUpTo}
 use Rattle.opc_base.specs.Plane.{cover}
@@ -43,3 +46,21 @@ pub record IsSweeping (quadrants : List Quadrant) (n : ℕ) (s : Sweep) (row : L
   pub below : (k : ℕ) (d : Quadrant) → k < i → k < length quadrants → (get_or quadrants k d).y ≤ℤ bottom
   pub above : (k : ℕ) (d : Quadrant) → i ≤ k → k < length quadrants → bottom ≤ℤ (get_or quadrants k d).y
   pub pixels : (x y : ℤ) → cover s.rects.items x y ≡ (int_lt y bottom && is_wound n quadrants x y)
+
+-- what holds of the rectangles of a sweep, if it came to its end
+abbrev pub IfSwept : SweepEnd → (List Rect → Type 0) → Type 0
+IfSwept (Swept rects) P = P rects.items
+IfSwept TooMany P = ⊤
+IfSwept TooLong P = ⊤
+
+-- what holds if it found too many corners
+abbrev pub IfTooMany : SweepEnd → Type 0 → Type 0
+IfTooMany (Swept rects) P = ⊤
+IfTooMany TooMany P = P
+IfTooMany TooLong P = ⊤
+
+-- what holds if it stopped with no answer
+abbrev pub IfTooLong : SweepEnd → Type 0 → Type 0
+IfTooLong (Swept rects) P = ⊤
+IfTooLong TooMany P = ⊤
+IfTooLong TooLong P = P

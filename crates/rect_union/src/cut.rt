@@ -24,10 +24,11 @@ const SMALL: usize = 1024;
 /// So many sides in a row for each quadrant, on the average of the rows, are swept at once.
 const FEW_SIDES: usize = 64;
 
-/// A strip has about so many quadrants, or more where there would be too many strips.
+/// A full strip has about so many quadrants, or more where there would be too many full strips.
 const IN_STRIP: usize = 256;
 
-const MOST_STRIPS: usize = 256;
+/// There are no more full strips than this. Left of them is an empty one, and right of them may be one with fewer quadrants.
+const FULL_STRIPS: usize = 256;
 
 /// Right of all quadrants that are within 1,048,576 of 0.
 const RIGHT_OF_ALL: i32 = 1_048_577;
@@ -212,14 +213,15 @@ fn sides_met(ends: &[(i32, bool)]) -> usize {
     met
 }
 
-/// Borders from the left, with about equally many quadrants between them.
+/// Borders from the left, with equally many quadrants from each to the next, at most 257: the first stands at the first
+/// quadrant, with nothing left of it.
 fn borders_of(alloc: Global, quadrants: &[Quadrant]) -> Result<Vec<i32>, AllocError> {
     let mut columns = Vec::with_capacity(alloc, quadrants.len())?;
     for quadrant in quadrants {
         columns.push(quadrant.column.x)?;
     }
     columns.sort_unstable();
-    let step = IN_STRIP.max(columns.len() / MOST_STRIPS);
+    let step = IN_STRIP.max(columns.len() / FULL_STRIPS);
     let borders = every(alloc, &columns, step)?;
     Ok(borders)
 }

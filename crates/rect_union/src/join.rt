@@ -1,17 +1,21 @@
-//! The union of many outlines, a few at a time.
+//! The union of many outlines: at once, in strips, or a few at a time.
 //!
-//! A sweep costs its rows times the columns that are active in a row. So outlines are first joined by fours, and what
-//! these cover again by fours, until few are left: what many that overlap cover has few sides.
+//! A sweep costs its rows times the columns that are active in a row. Where neither all rectangles at once nor strips are
+//! cheap, outlines are first joined by fours, and what these cover again by fours, until few are left: what many that
+//! overlap cover has few sides.
 
 ghost use Rattle.std.specs.Prelude.{◌≡◌, ℤ, All, IfNone, IfOk, IfSome};
 ghost use Rattle.opc_base.specs.Canonical.{AreCanonical};
-ghost use Rattle.opc_base.specs.Cover.{IsPlaced};
+ghost use Rattle.opc_base.specs.Cover.{AreRectangles, IsPlaced};
 ghost use Rattle.opc_base.specs.Plane.{IsRectWithin, cover};
 ghost use Rattle.opc_base.specs.Target.{HasMoreCornersThan, target};
 ghost use Rattle.rect_union.specs.Joins.{IsJoinOf, JoinsTo};
 
-use crate::spread::{are_many_in_rows, outline_size, rects_of, strip_borders};
-use crate::strips::striped_up_to;
+use crate::load::Load;
+use crate::once::swept_at_once;
+use crate::spread::{are_many_in_rows, outline_size, rects_of};
+use crate::strips::{striped_up_to, striped_within};
+use crate::sweep::SweepEnd;
 use crate::swept::swept_up_to;
 use opc_base::{Outline, Rect, Rects};
 use std::alloc::{AllocError, Global};
@@ -26,6 +30,57 @@ const MOST_IN_GROUP: usize = 262_144;
 
 /// The canonical rectangles of the pixels that some outline covers, or none where these have more corners than `most`.
 pub fn joined_up_to(
+    alloc: Global,
+    outlines: &[Outline],
+    most: usize,
+) -> Result<Option<Vec<Rect>>, AllocError>
+    requires placed { All IsPlaced outlines.now }
+    ensures canonical { IfOk result (λ found. IfSome found (λ rects. AreCanonical rects.items)) }
+    ensures within { IfOk result (λ found. IfSome found (λ rects. All (IsRectWithin 1048000) rects.items)) }
+    ensures pixels { IfOk result (λ found. IfSome found (λ rects. (x y : ℤ) → cover rects.items x y ≡ target outlines.now x y)) }
+    ensures stopped { IfOk result (λ found. IfNone found (HasMoreCornersThan most (target outlines.now))) }
+{
+    let rects = rects_of(alloc, outlines)?;
+    let end = swept_at_once(alloc, &rects, most)?;
+    match end {
+        SweepEnd::Swept(swept) => Ok(Some(swept)),
+        SweepEnd::TooMany => Ok(None),
+        SweepEnd::TooLong => parted_up_to(alloc, outlines, &rects, most),
+    }
+}
+
+/// The same, given rectangles that cover what the outlines do: in strips, or by groups where that is much work or turns out
+/// to be.
+fn parted_up_to(
+    alloc: Global,
+    outlines: &[Outline],
+    rects: &[Rect],
+    most: usize,
+) -> Result<Option<Vec<Rect>>, AllocError>
+    requires placed { All IsPlaced outlines.now }
+    requires rects { AreRectangles rects.now }
+    requires same { (x y : ℤ) → cover rects.now x y ≡ target outlines.now x y }
+    ensures canonical { IfOk result (λ found. IfSome found (λ rects. AreCanonical rects.items)) }
+    ensures within { IfOk result (λ found. IfSome found (λ rects. All (IsRectWithin 1048000) rects.items)) }
+    ensures pixels { IfOk result (λ found. IfSome found (λ rects. (x y : ℤ) → cover rects.items x y ≡ target outlines.now x y)) }
+    ensures stopped { IfOk result (λ found. IfNone found (HasMoreCornersThan most (target outlines.now))) }
+{
+    let load = Load::of(alloc, rects)?;
+    if !load.is_little() {
+        return joined_in_groups(alloc, outlines, most);
+    }
+    let borders = load.borders(alloc)?;
+    let again = load.most_again();
+    let end = striped_within(alloc, rects, &borders, most, again)?;
+    match end {
+        SweepEnd::Swept(striped) => Ok(Some(striped)),
+        SweepEnd::TooMany => Ok(None),
+        SweepEnd::TooLong => joined_in_groups(alloc, outlines, most),
+    }
+}
+
+/// The same by groups.
+fn joined_in_groups(
     alloc: Global,
     outlines: &[Outline],
     most: usize,
@@ -67,7 +122,7 @@ fn target_up_to(
     if !are_many_in_rows(alloc, &rects)? {
         return swept_up_to(alloc, outlines, most);
     }
-    let borders = strip_borders(alloc, &rects)?;
+    let borders = Load::of(alloc, &rects)?.borders(alloc)?;
     let found = striped_up_to(alloc, &rects, &borders, most)?;
     Ok(found)
 }

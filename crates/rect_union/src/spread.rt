@@ -1,10 +1,11 @@
-//! The rectangles of outlines, and where sweeps of them are worth to be cut.
+//! The rectangles of outlines, and where sweeps of them are worth cutting.
 
 ghost use Rattle.std.specs.Prelude.{◌≡◌, ◌<◌, ℤ, ◌||◌, All, IfOk, OnOk};
 ghost use Rattle.opc_base.specs.Cover.{AreRectangles, IsPlaced, outline_cover};
 ghost use Rattle.opc_base.specs.Plane.{cover};
 ghost use Rattle.opc_base.specs.Target.{target};
 
+use crate::boxes::box_of;
 use crate::swept::swept_rects;
 use opc_base::{Outline, Rect};
 use std::alloc::{AllocError, Global};
@@ -12,14 +13,6 @@ use std::slice;
 
 /// So many rectangles in a row, on the average, are swept at once.
 const FEW_IN_ROW: usize = 64;
-
-/// A strip has about so many vertical sides, or more where there would be too many strips.
-const SIDES_IN_STRIP: usize = 32;
-
-const MOST_STRIPS: usize = 1024;
-
-/// A strip has a side more for so many rectangles that a border cuts, on the average.
-const CUT_FOR_SIDE: usize = 8;
 
 /// Rectangles that cover what the outlines do: those of the paths, and those of each polygon.
 pub fn rects_of(alloc: Global, outlines: &[Outline]) -> Result<Vec<Rect>, AllocError>
@@ -41,10 +34,13 @@ fn add_rects(alloc: Global, rects: &mut Vec<Rect>, outline: &Outline) -> Result<
     ensures pixels { OnOk result ((x y : ℤ) → cover rects.new.items x y ≡ (cover rects.old.items x y || outline_cover outline.now x y)) }
 {
     match outline {
-        Outline::Polygon(_) => {
-            let swept = swept_rects(alloc, slice::from_ref(outline))?;
-            rects.extend_from_slice(&swept)?;
-        }
+        Outline::Polygon(points) => match box_of(points.as_slice()) {
+            Some(rect) => rects.push(rect)?,
+            None => {
+                let swept = swept_rects(alloc, slice::from_ref(outline))?;
+                rects.extend_from_slice(&swept)?;
+            }
+        },
         Outline::Path(path) => rects.extend_from_slice(path.as_slice())?,
     }
     Ok(())
@@ -52,17 +48,34 @@ fn add_rects(alloc: Global, rects: &mut Vec<Rect>, outline: &Outline) -> Result<
 
 /// Whether a row has many of the rectangles, on the average of the rows in which one begins or ends.
 pub fn are_many_in_rows(alloc: Global, rects: &[Rect]) -> Result<bool, AllocError> {
+    let ends = row_ends(alloc, rects)?;
+    Ok(rects_met(&ends) / FEW_IN_ROW > ends.len())
+}
+
+/// The rows in which a rectangle begins or ends, from the bottom, and whether it begins.
+pub fn row_ends(alloc: Global, rects: &[Rect]) -> Result<Vec<(i32, bool)>, AllocError> {
     let mut ends = Vec::new(alloc);
     for rect in rects {
         ends.push((rect.y0, true))?;
         ends.push((rect.y1, false))?;
     }
     ends.sort_unstable();
-    Ok(rects_met(&ends) / FEW_IN_ROW > ends.len())
+    Ok(ends)
+}
+
+/// The same of columns, from the left.
+pub fn column_sides(alloc: Global, rects: &[Rect]) -> Result<Vec<(i32, bool)>, AllocError> {
+    let mut sides = Vec::new(alloc);
+    for rect in rects {
+        sides.push((rect.x0, true))?;
+        sides.push((rect.x1, false))?;
+    }
+    sides.sort_unstable();
+    Ok(sides)
 }
 
 /// How many rectangles the rows have where one begins or ends, given by row, and whether it begins; or the columns.
-fn rects_met(ends: &[(i32, bool)]) -> usize {
+pub fn rects_met(ends: &[(i32, bool)]) -> usize {
     let mut here: usize = 0;
     let mut met: usize = 0;
     for (_, begins) in ends {
@@ -76,29 +89,8 @@ fn rects_met(ends: &[(i32, bool)]) -> usize {
     met
 }
 
-/// Borders from the left, with about equally many vertical sides between them.
-pub fn strip_borders(alloc: Global, rects: &[Rect]) -> Result<Vec<i32>, AllocError> {
-    let mut sides = Vec::new(alloc);
-    for rect in rects {
-        sides.push((rect.x0, true))?;
-        sides.push((rect.x1, false))?;
-    }
-    sides.sort_unstable();
-    let borders = every(alloc, &sides, sides_in_strip(&sides))?;
-    Ok(borders)
-}
-
-/// How many vertical sides a strip is to have: the more, the more rectangles a border would cut.
-fn sides_in_strip(sides: &[(i32, bool)]) -> usize
-    ensures some { 0 < result }
-{
-    let cut = rects_met(sides) / sides.len().max(1);
-    let few = sides.len() / MOST_STRIPS;
-    SIDES_IN_STRIP.max(few).max(cut / CUT_FOR_SIDE)
-}
-
 /// Each side whose index is a multiple of the step, which is not 0.
-fn every(alloc: Global, sides: &[(i32, bool)], step: usize) -> Result<Vec<i32>, AllocError>
+pub fn every(alloc: Global, sides: &[(i32, bool)], step: usize) -> Result<Vec<i32>, AllocError>
     requires some { 0 < step }
 {
     let mut kept = Vec::new(alloc);

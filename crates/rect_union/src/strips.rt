@@ -9,10 +9,11 @@ ghost use Rattle.opc_base.specs.Canonical.{AreCanonical, IsSolid};
 ghost use Rattle.opc_base.specs.Plane.{IsRectWithin, PixelSet, cover, rect_cover};
 ghost use Rattle.opc_base.specs.Target.{HasMoreCornersThan};
 ghost use Rattle.rect_union.specs.Strips.{AreInPlane, AreParted, AreStrips, IsApartList, IsInLimit, Widens};
+ghost use Rattle.rect_union.specs.Sweeps.{IfSwept, IfTooLong, IfTooMany};
 
 use crate::outlines::add_path;
 use crate::quadrants::sort_rows;
-use crate::sweep::region_of_quadrants;
+use crate::sweep::{SweepEnd, region_of_quadrants};
 use opc_base::Rect;
 use std::alloc::{AllocError, Global};
 
@@ -58,16 +59,44 @@ pub fn striped_up_to(
     ensures stopped { IfOk result (λ found. IfNone found (HasMoreCornersThan most (cover rects.now))) }
     ensures limit { IfOk result (λ found. IfNone found (most + 1 < 2 ^ 64)) }
 {
+    match striped_within(alloc, rects, borders, most, usize::MAX)? {
+        SweepEnd::Swept(striped) => Ok(Some(striped)),
+        SweepEnd::TooMany => Ok(None),
+        SweepEnd::TooLong => Ok(None),
+    }
+}
+
+/// The same, as long as no more rectangles than `again` reach the borders in all, each of which is swept again with the
+/// next strip.
+pub fn striped_within(
+    alloc: Global,
+    rects: &[Rect],
+    borders: &[i32],
+    most: usize,
+    again: usize,
+) -> Result<SweepEnd, AllocError>
+    requires placed { AreInPlane rects.now }
+    ensures canonical { IfOk result (λ end. IfSwept end AreCanonical) }
+    ensures pixels { IfOk result (λ end. IfSwept end (λ striped. (x y : ℤ) → cover striped x y ≡ cover rects.now x y)) }
+    ensures stopped { IfOk result (λ end. IfTooMany end (HasMoreCornersThan most (cover rects.now))) }
+    ensures limit { IfOk result (λ end. IfTooMany end (most + 1 < 2 ^ 64)) }
+    ensures long { IfOk result (λ end. IfTooLong end (again + 1 < 2 ^ 64)) }
+{
     let mut strips = Strips::new(alloc);
+    let mut met: usize = 0;
     for border in borders {
         strips.widen(alloc, rects, *border)?;
         if strips.done.len() > most {
-            return Ok(None);
+            return Ok(SweepEnd::TooMany);
+        }
+        met = met.saturating_add(strips.reaching.len());
+        if met > again {
+            return Ok(SweepEnd::TooLong);
         }
     }
     strips.widen(alloc, rects, RIGHT_OF_ALL)?;
     sort_starts(&mut strips.done);
-    Ok(Some(strips.done))
+    Ok(SweepEnd::Swept(strips.done))
 }
 
 /// Puts rectangles that are apart into canonical order.

@@ -7,7 +7,7 @@ ghost use Rattle.rect_union.specs.Columns.{AreInOrder, HaveOwnersBelow, owner_to
 ghost use Rattle.opc_base.specs.Plane.{cover};
 ghost use Rattle.rect_union.specs.Quadrants.{AreInRows, HaveQuadrantOwnersBelow, column_total, is_wound, quadrant_weight, row_total};
 ghost use Rattle.opc_base.specs.Target.{HasMoreCornersThan};
-ghost use Rattle.rect_union.specs.Sweeps.{IsSweepAt, Raises};
+ghost use Rattle.rect_union.specs.Sweeps.{IfSwept, IfTooLong, IfTooMany, IsSweepAt, Raises};
 
 use crate::columns::{Column, runs_of};
 use crate::merge::merged;
@@ -24,6 +24,17 @@ pub struct Sweep {
     pub columns: Vec<Column>,
     pub rects: Vec<Rect>,
     pub growing: Vec<Growing>,
+}
+
+/// How a sweep came out.
+#[derive(Debug, Drop)]
+pub enum SweepEnd {
+    /// With all rectangles.
+    Swept(Vec<Rect>),
+    /// The set has more corners than were asked for.
+    TooMany,
+    /// The rows have more columns than were asked for, or more rectangles reach the borders of strips.
+    TooLong,
 }
 
 /// The canonical rectangles of the pixels round which the quadrants of some owner do not cancel.
@@ -49,8 +60,7 @@ pub fn region_of_quadrants(
     }
 }
 
-/// The same, or none where the set has more corners than `most`: the sweep stops once more rectangles stand, each of which
-/// has a corner of its own on its lower side.
+/// The same, or none where the set has more corners than `most`.
 pub fn region_up_to(
     alloc: Global,
     owners: usize,
@@ -67,21 +77,53 @@ pub fn region_up_to(
     ensures stopped { IfOk result (λ found. IfNone found (HasMoreCornersThan most (is_wound owners quadrants.now))) }
     ensures limit { IfOk result (λ found. IfNone found (most + 1 < 2 ^ 64)) }
 {
+    match region_within(alloc, owners, quadrants, most, usize::MAX)? {
+        SweepEnd::Swept(rects) => Ok(Some(rects)),
+        SweepEnd::TooMany => Ok(None),
+        SweepEnd::TooLong => Ok(None),
+    }
+}
+
+/// The same, as long as the rows have no more columns than `columns` in all. The sweep stops once more rectangles than
+/// `most` stand, each of which has a corner of its own on its lower side.
+pub fn region_within(
+    alloc: Global,
+    owners: usize,
+    quadrants: &[Quadrant],
+    most: usize,
+    columns: usize,
+) -> Result<SweepEnd, AllocError>
+    requires order { AreInRows quadrants.now }
+    requires owners { HaveQuadrantOwnersBelow owners quadrants.now }
+    requires small { quadrant_weight quadrants.now < 2 ^ 126 }
+    requires closed_right { (owner : ℕ) (y : ℤ) → row_total quadrants.now owner y ≡ pos 0 }
+    requires closed_above { (owner : ℕ) (x : ℤ) → column_total quadrants.now owner x ≡ pos 0 }
+    ensures canonical { IfOk result (λ end. IfSwept end AreCanonical) }
+    ensures pixels { IfOk result (λ end. IfSwept end (λ rects. (x y : ℤ) → cover rects x y ≡ is_wound owners quadrants.now x y)) }
+    ensures stopped { IfOk result (λ end. IfTooMany end (HasMoreCornersThan most (is_wound owners quadrants.now))) }
+    ensures limit { IfOk result (λ end. IfTooMany end (most + 1 < 2 ^ 64)) }
+    ensures long { IfOk result (λ end. IfTooLong end (columns + 1 < 2 ^ 64)) }
+{
     let mut state = Sweep::new(alloc, owners)?;
     let mut row = Vec::new(alloc);
     let mut bottom = first_row(quadrants);
+    let mut met: usize = 0;
     for quadrant in quadrants {
         if quadrant.y != bottom {
             state.raise(alloc, &row, bottom, quadrant.y)?;
             if state.rects.len() > most {
-                return Ok(None);
+                return Ok(SweepEnd::TooMany);
+            }
+            met = met.saturating_add(state.columns.len());
+            if met > columns {
+                return Ok(SweepEnd::TooLong);
             }
             row.clear();
             bottom = quadrant.y;
         }
         row.push(quadrant.column)?;
     }
-    Ok(Some(state.rects))
+    Ok(SweepEnd::Swept(state.rects))
 }
 
 fn first_row(quadrants: &[Quadrant]) -> i32

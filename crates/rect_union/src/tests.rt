@@ -6,7 +6,8 @@ ghost use Rattle.opc_base.specs.Plane.{IsPixWithin};
 
 use super::*;
 use crate::spread::{are_many_in_rows, rects_of};
-use crate::strips::striped_rects;
+use crate::strips::{striped_rects, striped_within};
+use crate::sweep::SweepEnd;
 use crate::swept::swept_rects;
 use opc_base::{NoMemory, Outline, Pix, Pixes, Placed, Rect};
 use std::alloc::Global;
@@ -255,6 +256,31 @@ fn sweeps_in_strips(rt: HostRuntime) -> Result<(), Fail> {
     Ok(())
 }
 
+// A bar reaches both borders, and a square the first: three to be swept again.
+#[test]
+fn gives_up_where_too_many_reach_the_borders(rt: HostRuntime) -> Result<(), Fail> {
+    let alloc = rt.alloc();
+    let mut outlines = Vec::new(alloc);
+    add(
+        &rt,
+        alloc,
+        &mut outlines,
+        &[(0, 0), (9, 0), (9, 1), (0, 1), (0, 0)],
+    )?;
+    add(
+        &rt,
+        alloc,
+        &mut outlines,
+        &[(1, 2), (3, 2), (3, 4), (1, 4), (1, 2)],
+    )?;
+    let rects = rects_of(alloc, &outlines)?;
+    let enough = striped_within(alloc, &rects, &[2, 6], usize::MAX, 3)?;
+    assert!(rt; matches!(enough, SweepEnd::Swept(_)));
+    let too_few = striped_within(alloc, &rects, &[2, 6], usize::MAX, 2)?;
+    assert!(rt; matches!(too_few, SweepEnd::TooLong));
+    Ok(())
+}
+
 /// Rectangles that begin at a column below `across`, with sides up to these sizes.
 #[derive(Clone, Copy)]
 struct Layout {
@@ -343,5 +369,64 @@ fn unites_as_one_sweep_does(rt: HostRuntime) -> Result<(), Fail> {
         let region = union(alloc, &Placed::from_outlines(outlines))?;
         assert_eq!(rt; region.rects(), swept.as_slice());
     }
+    Ok(())
+}
+
+/// Adds a long bar, further right and lower than the one of the number before, with which it shares most columns and rows.
+fn add_step(
+    rt: &impl Abort,
+    alloc: Global,
+    outlines: &mut Vec<Outline>,
+    index: u16,
+) -> Result<(), NoMemory>
+    requires { All IsPlaced outlines.old.items }
+    ensures { OnOk result (All IsPlaced outlines.new.items) }
+{
+    let at = i32::from(index);
+    let bar = rect(at, -at, at + 50, 100_000 - at);
+    add_walk(rt, alloc, outlines, &bar, false)
+}
+
+fn stairs(rt: &impl Abort, alloc: Global, count: u16) -> Result<Vec<Outline>, NoMemory>
+    ensures { IfOk result (λ outlines. All IsPlaced outlines.items) }
+{
+    let mut outlines = Vec::new(alloc);
+    for index in 0..count {
+        add_step(rt, alloc, &mut outlines, index)?;
+    }
+    Ok(outlines)
+}
+
+/// The row of 500 steps that is so many below 0.
+fn row_below(depth: u16) -> Rect {
+    let at = i32::from(depth);
+    rect(at, -at, 549, 1 - at)
+}
+
+/// The row that is so many below the top of the first step.
+fn row_above(depth: u16) -> Rect {
+    let at = i32::from(depth);
+    rect(0, 100_000 - at, at + 49, 100_001 - at)
+}
+
+// Below the rows that all bars have, each row has one bar less on the left than the row above; above them, each has one less
+// on the right than the row below.
+#[test]
+fn unites_stairs(rt: HostRuntime) -> Result<(), Fail> {
+    let alloc = rt.alloc();
+    let mut wanted = Vec::new(alloc);
+    for index in 0..499 {
+        wanted.push(row_below(499 - index))?;
+    }
+    wanted.push(rect(0, 0, 549, 99_501))?;
+    for index in 0..499 {
+        wanted.push(row_above(499 - index))?;
+    }
+    let outlines = stairs(&rt, alloc, 500)?;
+    let rects = rects_of(alloc, &outlines)?;
+    let striped = striped_rects(alloc, &rects, &[20, 60, 300])?;
+    assert_eq!(rt; striped.as_slice(), wanted.as_slice());
+    let region = union(alloc, &Placed::from_outlines(outlines))?;
+    assert_eq!(rt; region.rects(), wanted.as_slice());
     Ok(())
 }

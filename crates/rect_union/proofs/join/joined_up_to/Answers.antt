@@ -1,14 +1,9 @@
 use Rattle.std.proofs.Common.{◌∙◌}
-use Rattle.opc_base.specs.Target.{target}
-use Rattle.rect_union.proofs.SetLaws.{if_none, if_some, more_for}
+use Rattle.rect_union.proofs.WithinLaws.{rects_are_within}
 use Rattle.rect_union.proofs.join.joined_up_to.Goals as goal
 
-pub returns-clause-pixels : goal.returns-clause-pixels
-returns-clause-pixels c =
-    let pixels = rw c.deref.ensures.value at c.in_ok-found.ensures.pixels in
-    if_some c.in_ok-found.found pixels (λ rects covered x y. covered x y ∙ c.loop.invariant.pixels x y)
-
-pub returns-clause-stopped : goal.returns-clause-stopped
-returns-clause-stopped c =
-    let stopped = rw c.deref.ensures.value at c.in_ok-found.ensures.stopped in
-    if_none c.in_ok-found.found stopped (more_for (target c.loop.joined.items) (target c.args.outlines.now) c.args.most c.loop.invariant.pixels)
+pub returns-in-Swept-clause-within : goal.returns-in-Swept-clause-within
+returns-in-Swept-clause-within c =
+    let canonical = rw c.in-Swept.is at c.in_ok-end.ensures.canonical in
+    let pixels = rw (c.in-Swept.is, c.deref.ensures.value) at c.in_ok-end.ensures.pixels in
+    rects_are_within c.args.outlines.now c.in-Swept.swept.items c.requires.placed canonical (λ x y. pixels x y ∙ c.in_ok-rects.ensures.pixels x y)

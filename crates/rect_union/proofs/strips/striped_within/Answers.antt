@@ -2,7 +2,7 @@ use Rattle.std.proofs.Common.{◌∙◌, refl, arith}
 use Rattle.std.proofs.lemmas.Int.{ints}
 use Rattle.opc_base.specs.Plane.{cover}
 use Rattle.rect_union.proofs.StripLaws.{more_by_strips, rects_inside, strips_end, widened_strips}
-use Rattle.rect_union.proofs.strips.striped_up_to.Goals as goal
+use Rattle.rect_union.proofs.strips.striped_within.Goals as goal
 
 pub loop-border-init : goal.loop-border-init
 loop-border-init c = c.new-strips.ensures.valid (cover c.args.rects.now) (rects_inside c.args.rects.now c.requires.placed)

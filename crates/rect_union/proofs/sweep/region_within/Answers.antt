@@ -5,8 +5,8 @@ use Rattle.rect_union.specs.declared.quadrants.Quadrant.{Quadrant}
 use Rattle.rect_union.specs.Quadrants.{is_wound}
 use Rattle.rect_union.proofs.LowerSides.{more_by_rows}
 use Rattle.rect_union.proofs.SweepLaws.{sweeping_starts, sweeping_closed, sweeping_raises, sweeping_pushes, sweeping_ends}
-use Rattle.rect_union.proofs.sweep.region_up_to.Goals as goal
-use Rattle.rect_union.proofs.sweep.region_up_to.Goals.{then-quadrant-bottom+in_ok-raise+else-len-most, else-quadrant-bottom}
+use Rattle.rect_union.proofs.sweep.region_within.Goals as goal
+use Rattle.rect_union.proofs.sweep.region_within.Goals.{then-quadrant-bottom+in_ok-raise+else-len-most+else-met-columns, else-quadrant-bottom}
 
 pub loop-quadrant-init : goal.loop-quadrant-init
 loop-quadrant-init c =
@@ -32,7 +32,7 @@ loop-quadrant-preserved c =
     let quadrant : Quadrant = record { y = pos 0; column = column } in
     let at : c.loop-quadrant.quadrant-index < length c.args.quadrants.now = omega arith in
     elim c.if-quadrant-bottom.branch [
-      | then-quadrant-bottom+in_ok-raise+else-len-most w ↦
+      | then-quadrant-bottom+in_ok-raise+else-len-most+else-met-columns w ↦
           let y_fits : SFits w32 (get_or c.args.quadrants.now c.loop-quadrant.quadrant-index quadrant).y = search rules in
           let next : (get_or c.args.quadrants.now c.loop-quadrant.quadrant-index quadrant).y ≢ to_z w32 c.loop-quadrant.bottom-bits =
           λ same. w.if-quadrant-bottom.true (ap (of_z w32) same ∙ of_z-to_z w32 c.loop-quadrant.bottom-bits (omega arith)) in

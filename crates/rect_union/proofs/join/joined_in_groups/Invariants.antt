@@ -1,5 +1,5 @@
 use Rattle.rect_union.specs.Joins.{JoinsTo}
-use Rattle.rect_union.proofs.join.joined_up_to.Given as goal
+use Rattle.rect_union.proofs.join.joined_in_groups.Given as goal
 
 abbrev pub invariant-loop : goal.invariant-loop
 invariant-loop l = JoinsTo l.fn.outlines l.joined.items
