@@ -1,11 +1,11 @@
 -- The index of fragments, from their keys in order.
-use Rattle.std.proofs.Common.{◌≡◌, inl, inr, ℕ, zero, suc, ◌+◌, ◌-◌, ◌<◌, ◌≤◌, ℤ, pos, ◌≤ℤ◌, ◌<ℤ◌, List, Contains, Some, length, get_or, drop, map, slice_get, slice_range, sym, ap, ◌∙◌, subst, arith, ⊎_elim}
+use Rattle.std.proofs.Common.{◌≡◌, inl, inr, ℕ, zero, suc, ◌+◌, ◌-◌, ◌<◌, ◌≤◌, ℤ, pos, ◌<ℤ◌, List, Contains, Some, length, get_or, drop, map, slice_get, slice_range, sym, ap, ◌∙◌, subst, arith, ⊎_elim}
 use Rattle.std.proofs.lemmas.Bool.{cases_lt}
 use Rattle.std.proofs.lemmas.Int.{ints}
 use Rattle.std.proofs.lemmas.List.{get_or_default, get_or-drop, get_or-map, get_or-take, length-drop, length-map, length-take}
 use Rattle.std.specs.List.Sorted.{IsStrictlyIncreasing}
 use Rattle.outline_model.specs.declared.fragment.Fragment.{Fragment}
-use Rattle.tiles.specs.Index.{AreByRows, AreFirsts, AreSizes, AreTiles, HoldGroups, tiling_from}
+use Rattle.tiles.specs.Index.{AreFirsts, AreInOrder, AreSizes, AreTiles, HoldGroups, tiling_from}
 use Rattle.tiles.specs.Keys.{AreKeys, IsSquareWithin, SquarePrecedes, key_at, key_of, square_at}
 use Rattle.tiles.specs.Places.{AreOneEach}
 use Rattle.tiles.specs.Tiles.{IsInTile, IsTilingOf, Tiling, by_place, standing, tile_at, tile_count}
@@ -35,27 +35,25 @@ one_each fs side keys are = record {
         let has = are.complete i below in
         (has.0, omega (arith, has.1, size), get_or-map (λ (k : Key). k.number) keys has.0 (key_of fs side i) i has.1 ∙ ap (λ k. k.number) has.2)
 
--- squares that ascend are by rows
-by_rows : (squares : List Square) → ((k : ℕ) → k + 1 < length squares → SquarePrecedes (square_at squares k) (square_at squares (k + 1))) → AreByRows squares
-by_rows squares ascend j zero le below = let same : j ≡ 0 = omega arith in rw same (omega (arith, ints))
-by_rows squares ascend j (suc k) le below = ⊎_elim
-    (λ later. let same : j ≡ suc k = at_top j k le later in rw same (omega (arith, ints)))
-    (λ before. climb (by_rows squares ascend j k before (omega arith)) (step k below))
-    (cases_lt k j)
+precedes-trans : (r s t : Square) → SquarePrecedes r s → SquarePrecedes s t → SquarePrecedes r t
+precedes-trans r s t (inl up) (inl more) = inl (omega (arith, ints))
+precedes-trans r s t (inl up) (inr level) = inl (omega (arith, ints, level.0))
+precedes-trans r s t (inr level) (inl up) = inl (omega (arith, ints, level.0))
+precedes-trans r s t (inr level) (inr more) = inr (level.0 ∙ more.0, omega (arith, ints, level.1, more.1))
+
+-- squares of which each is before the next
+in_order : (squares : List Square) → ((k : ℕ) → k + 1 < length squares → SquarePrecedes (square_at squares k) (square_at squares (k + 1))) → AreInOrder squares
+in_order squares ascend j zero less below = absurd (omega arith)
+in_order squares ascend j (suc k) less below = ⊎_elim
+    (λ before. precedes-trans _ _ _ (in_order squares ascend j k before (omega arith)) (step k below))
+    (λ later. let same : j ≡ k = at_top j k less later in rw same (step k below))
+    (cases_lt j k)
   where
-    at_top : (j k : ℕ) → j ≤ suc k → k < j → j ≡ suc k
-    at_top j k le later = omega arith
+    at_top : (j k : ℕ) → j < suc k → k ≤ j → j ≡ k
+    at_top j k less later = omega arith
 
-    step : (k : ℕ) → suc k < length squares → (square_at squares k).b ≤ℤ (square_at squares (suc k)).b
-    step k below = let next : k + 1 ≡ suc k = omega arith in subst (λ m. (square_at squares k).b ≤ℤ (square_at squares m).b) next (row_of (ascend k (omega arith)))
-      where
-        row_of : SquarePrecedes (square_at squares k) (square_at squares (k + 1)) → (square_at squares k).b ≤ℤ (square_at squares (k + 1)).b
-        row_of (inl up) = omega (arith, ints)
-        row_of (inr level) = omega (arith, ints, level.0)
-
-    climb : (square_at squares j).b ≤ℤ (square_at squares k).b → (square_at squares k).b ≤ℤ (square_at squares (suc k)).b →
-        (square_at squares j).b ≤ℤ (square_at squares (suc k)).b
-    climb first second = omega (arith, ints)
+    step : (k : ℕ) → suc k < length squares → SquarePrecedes (square_at squares k) (square_at squares (suc k))
+    step k below = let next : k + 1 ≡ suc k = omega arith in subst (λ m. SquarePrecedes (square_at squares k) (square_at squares m)) next (ascend k (omega arith))
 
 -- a square lies in no row or column before itself
 not_itself : (s : Square) → ¬ SquarePrecedes s s
@@ -77,7 +75,7 @@ module _ (fs : List Fragment) (side halo : ℤ) (keys : List Key) (squares : Lis
   tiles_kept numbers places sizes is same placed = record {
     sizes = sizes;
     near = λ k below. near k below;
-    rows = by_rows squares groups.ascend;
+    order = in_order squares groups.ascend;
     few = omega (arith, size, are.few);
     firsts_are = rw size groups.firsts_are;
     same_count = same;

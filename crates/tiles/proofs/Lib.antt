@@ -7,5 +7,6 @@ pub mod PlaceLaws
 pub mod DivLaws
 pub mod BuiltLaws
 pub mod RowLaws
+pub mod SkipLaws
 pub mod TilingLaws
 pub mod TilingIsUnique

@@ -8,7 +8,7 @@ use Rattle.tiles.specs.Keys.{square_at}
 use Rattle.tiles.specs.Meets.{meet_tile}
 use Rattle.tiles.specs.Tiles.{Listed, Tiling, by_place, first_of, square_of, tile_at, tile_count}
 use Rattle.opc_base.specs.declared.plane.Rect.{Rect}
-use Rattle.tiles.proofs.MeetLaws.{high_row_fails, low_row_fails}
+use Rattle.tiles.proofs.MeetLaws.{high_row_fails, left_column_fails, low_row_fails, right_column_fails}
 use Rattle.tiles.specs.declared.key.Square.{Square}
 
 pub length-listed : (ss : List Square) (firsts numbers : List ℕ) (k : ℕ) → length (listed_from ss firsts numbers k) ≡ length ss
@@ -93,3 +93,10 @@ module _ (side halo : ℤ) (ss : List Square) (firsts numbers : List ℕ) (now :
 
   pub over-fails : (rect : Rect) (k : ℕ) → k < length ss → rect.y1 ≤ℤ ((square_at ss k).b *ℤ side -ℤ halo) → meet_tile now rect k ≡ false
   over-fails rect k below apart = high_row_fails (square_of now k) rect (rw (sym (ap (λ t. t.side) is), sym (ap (λ t. t.halo) is), tile-seen k below) apart)
+
+  -- and so a column that ends to the left of it, and one that begins to the right
+  pub left-fails : (rect : Rect) (k : ℕ) → k < length ss → ((square_at ss k).a *ℤ side +ℤ side +ℤ halo) ≤ℤ rect.x0 → meet_tile now rect k ≡ false
+  left-fails rect k below apart = left_column_fails (square_of now k) rect (rw (sym (ap (λ t. t.side) is), sym (ap (λ t. t.halo) is), tile-seen k below) apart)
+
+  pub right-fails : (rect : Rect) (k : ℕ) → k < length ss → rect.x1 ≤ℤ ((square_at ss k).a *ℤ side -ℤ halo) → meet_tile now rect k ≡ false
+  right-fails rect k below apart = right_column_fails (square_of now k) rect (rw (sym (ap (λ t. t.side) is), sym (ap (λ t. t.halo) is), tile-seen k below) apart)

@@ -69,6 +69,19 @@ high_row_fails r s apart = rows (int_lt (int_max r.x0 s.x0) (int_min r.x1 s.x1))
     rows : (b : Bool) (a c d e : ℤ) → e ≤ℤ a → (b && int_lt (int_max a d) (int_min c e)) ≡ false
     rows b a c d e apart = grind (arith, ints, clamps)
 
+-- ---- a column in which it can't lie
+pub left_column_fails : (r s : Rect) → r.x1 ≤ℤ s.x0 → meet r s ≡ false
+left_column_fails r s apart = columns (int_lt (int_max r.y0 s.y0) (int_min r.y1 s.y1)) r.x0 r.x1 s.x0 s.x1 apart
+  where
+    columns : (b : Bool) (a c d e : ℤ) → c ≤ℤ d → (int_lt (int_max a d) (int_min c e) && b) ≡ false
+    columns b a c d e apart = grind (arith, ints, clamps)
+
+pub right_column_fails : (r s : Rect) → s.x1 ≤ℤ r.x0 → meet r s ≡ false
+right_column_fails r s apart = columns (int_lt (int_max r.y0 s.y0) (int_min r.y1 s.y1)) r.x0 r.x1 s.x0 s.x1 apart
+  where
+    columns : (b : Bool) (a c d e : ℤ) → e ≤ℤ a → (int_lt (int_max a d) (int_min c e) && b) ≡ false
+    columns b a c d e apart = grind (arith, ints, clamps)
+
 -- ---- what a sample sees
 -- the samples of a fragment lie no further from where it stands than there are samples to a side
 abbrev pub IsNearBy : ℕ → Pix → Pix → Type 0

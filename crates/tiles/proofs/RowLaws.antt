@@ -1,4 +1,4 @@
--- The rows of squares that a rectangle reaches, as the code computes them.
+-- The rows and columns of squares that a rectangle reaches, as the code computes them.
 use Rattle.std.proofs.Common.{◌≡◌, ◌≤◌, ℤ, pos, ◌+ℤ◌, ◌-ℤ◌, ◌*ℤ◌, ◌≤ℤ◌, ◌<ℤ◌, unsigned_abs, to_z, of_z, w32, w64, SFits, ap₂, ◌∙◌, arith}
 use Rattle.std.proofs.lemmas.Int.{ints}
 use Rattle.std.specs.Int.{int_div_euclid}

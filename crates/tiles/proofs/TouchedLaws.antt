@@ -31,39 +31,6 @@ skipped p (suc m) n k count is within fails =
     left_out p n count (omega arith) (fails n (omega arith) (omega arith))
     ∙ skipped p m (n + 1) k count (omega arith) within (λ j from below. fails j (omega arith) below)
 
--- numbers that fail from the end on
-cut_off : (p : ℕ → Bool) (m n end count : ℕ) → end ≡ n + m → end ≤ count → ((j : ℕ) → end ≤ j → j < count → p j ≡ false) →
-    filter p (range_with_len n (end - n)) ≡ filter p (range_with_len n (count - n))
-cut_off p zero n end count is within fails =
-    past p n end (omega arith)
-    ∙ sym (skipped p (count - n) n count count (omega arith) (omega arith) (λ j from below. fails j (omega arith) below) ∙ past p count count (omega arith))
-cut_off p (suc m) n end count is within fails = by (p n) refl (cut_off p m (n + 1) end count (omega arith) within fails)
-  where
-    by : (b : Bool) → p n ≡ b → filter p (range_with_len (n + 1) (end - (n + 1))) ≡ filter p (range_with_len (n + 1) (count - (n + 1))) →
-        filter p (range_with_len n (end - n)) ≡ filter p (range_with_len n (count - n))
-    by true passes rest = taken p n end (omega arith) passes ∙ ap (λ (ns : List ℕ). n ∷ ns) rest ∙ sym (taken p n count (omega arith) passes)
-    by false misses rest = left_out p n end (omega arith) misses ∙ rest ∙ sym (left_out p n count (omega arith) misses)
-
--- only the numbers of a band pass
-pub in_band : (tiling : Tiling) (rect : Rect) (low high : ℕ) → low ≤ tile_count tiling → high ≤ tile_count tiling →
-    ((k : ℕ) → k < low → meet_tile tiling rect k ≡ false) → ((k : ℕ) → high ≤ k → k < tile_count tiling → meet_tile tiling rect k ≡ false) →
-    touched_between tiling rect low high ≡ touched_tiles tiling rect
-in_band tiling rect low high low_within high_within before after = between ∙ ap (λ n. filter p (range_with_len 0 n)) (let all : tile_count tiling - 0 ≡ tile_count tiling = omega arith in all)
-  where
-    p : ℕ → Bool
-    p = meet_tile tiling rect
-
-    between : touched_between tiling rect low high ≡ filter (meet_tile tiling rect) (range_with_len 0 (tile_count tiling - 0))
-    between = ⊎_elim
-        (λ crossed.
-        past p low high (omega arith)
-        ∙ sym (skipped p (tile_count tiling) 0 (tile_count tiling) (tile_count tiling) (omega arith) (omega arith) (λ j from below. ⊎_elim
-        (λ early. before j early) (λ late. after j (omega arith) below) (cases_lt j low)) ∙ past p (tile_count tiling) (tile_count tiling) (omega arith)))
-        (λ ordered.
-        cut_off p (high - low) low high (tile_count tiling) (omega arith) high_within after
-        ∙ sym (skipped p low 0 low (tile_count tiling) (omega arith) low_within (λ j from below. before j below)))
-        (cases_lt high low)
-
 -- ---- as the iterator goes
 pub steps_none : (tiling : Tiling) (rect : Rect) (from end : ℕ) (now : List ℕ) (found : Option ℕ) → touched_between tiling rect from end ≡ now →
     IsFirstMet tiling rect from end found → found ≡ None → (now ≡ []) × (now ≡ [])
@@ -82,23 +49,6 @@ steps_some tiling rect from end k now found left first some =
     let at = subst (IsFirstMet tiling rect from end) some first in
     sym left ∙ skipped (meet_tile tiling rect) (k - from) from k end (omega (arith, at.0)) (omega (arith, at.1)) at.3
     ∙ taken (meet_tile tiling rect) k end at.1 at.2
-
--- the first of them reaches the rectangle, or doesn't
-pub touched_between-met : (tiling : Tiling) (rect : Rect) (tile high : ℕ) → tile < high → meet_tile tiling rect tile ≡ true →
-    touched_between tiling rect tile high ≡ tile ∷ touched_between tiling rect (tile + 1) high
-touched_between-met tiling rect tile high below met = taken (meet_tile tiling rect) tile high below met
-
-pub touched_between-missed : (tiling : Tiling) (rect : Rect) (tile high : ℕ) → tile < high → meet_tile tiling rect tile ≡ false →
-    touched_between tiling rect tile high ≡ touched_between tiling rect (tile + 1) high
-touched_between-missed tiling rect tile high below missed = left_out (meet_tile tiling rect) tile high below missed
-
--- of some tiles, only those of a band reach it
-pub between_band : (tiling : Tiling) (rect : Rect) (first low high last : ℕ) → first ≤ low → low ≤ high → high ≤ last →
-    ((k : ℕ) → first ≤ k → k < low → meet_tile tiling rect k ≡ false) → ((k : ℕ) → high ≤ k → k < last → meet_tile tiling rect k ≡ false) →
-    touched_between tiling rect low high ≡ touched_between tiling rect first last
-between_band tiling rect first low high last up order upper before after =
-    cut_off (meet_tile tiling rect) (high - low) low high last (omega arith) upper after
-    ∙ sym (skipped (meet_tile tiling rect) (low - first) first low last (omega arith) (omega arith) before)
 
 -- all tiles are those from the first to the last
 pub touched_between-all : (tiling : Tiling) (rect : Rect) → touched_between tiling rect 0 (tile_count tiling) ≡ touched_tiles tiling rect

@@ -30,9 +30,9 @@ pub record HoldGroups (keys : List Key) (squares : List Square) (firsts : List �
   pub in_square : (k q : ℕ) → k < length squares → get_or firsts k 0 ≤ q → q < get_or firsts (k + 1) 0 → (key_at keys q).square ≡ square_at squares k
   pub ascend : (k : ℕ) → k + 1 < length squares → SquarePrecedes (square_at squares k) (square_at squares (k + 1))
 
--- none is in a row below that of one before it
-abbrev pub AreByRows : List Square → Type 0
-AreByRows squares = (j k : ℕ) → j ≤ k → k < length squares → (square_at squares j).b ≤ℤ (square_at squares k).b
+-- each is before all later ones
+abbrev pub AreInOrder : List Square → Type 0
+AreInOrder squares = (j k : ℕ) → j < k → k < length squares → SquarePrecedes (square_at squares j) (square_at squares k)
 
 pub record AreSizes (side halo : ℤ) : Type 0 where
   pub least_side : pos 16 ≤ℤ side
@@ -44,7 +44,7 @@ pub record AreSizes (side halo : ℤ) : Type 0 where
 pub record AreTiles (side halo : ℤ) (squares : List Square) (firsts numbers places : List ℕ) : Type 0 where
   pub sizes : AreSizes side halo
   pub near : (k : ℕ) → k < length squares → IsSquareWithin side (square_at squares k)
-  pub rows : AreByRows squares
+  pub order : AreInOrder squares
   pub few : length numbers ≤ 32768
   pub firsts_are : AreFirsts firsts (length squares) (length numbers)
   pub same_count : length places ≡ length numbers

@@ -1,6 +1,7 @@
 -- Fragments in the order of their places, and the tiles in which they stand.
-use Rattle.std.specs.Prelude.{◌≡◌, ◌≢◌, ◌⊎◌, ℕ, ◌+◌, ◌-◌, ◌<◌, ◌≤◌, ℤ, pos, ◌*ℤ◌, ◌<ℤ◌, unsigned_abs, List, length, get_or, All, Contains}
+use Rattle.std.specs.Prelude.{◌≡◌, ◌≢◌, ◌⊎◌, ℕ, ◌+◌, ◌-◌, ◌<◌, ◌≤◌, ℤ, pos, ◌*ℤ◌, ◌<ℤ◌, int_lt, unsigned_abs, Bool, ◌&&◌, ◌||◌, List, length, get_or, All, Contains}
 use Rattle.std.specs.Int.{int_div_euclid}
+use Rattle.std.specs.Ordering.{int_eq}
 use Rattle.outline_model.specs.declared.fragment.Fragment.{Fragment}
 use Rattle.tiles.specs.Tiles.{standing}
 use Rattle.tiles.specs.declared.key.Key.{Key}
@@ -29,6 +30,10 @@ pub record IsSquareWithin (side : ℤ) (square : Square) : Type 0 where
 -- by b, and those of one b by a
 abbrev pub SquarePrecedes : Square → Square → Type 0
 SquarePrecedes s t = (s.b <ℤ t.b) ⊎ ((s.b ≡ t.b) × (s.a <ℤ t.a))
+
+-- it stands before this column of this row
+abbrev pub is_before : Square → ℤ → ℤ → Bool
+is_before s row column = int_lt s.b row || (int_eq s.b row && int_lt s.a column)
 
 -- the keys of the first n fragments by number
 pub record ListsKeys (fs : List Fragment) (side : ℤ) (n : ℕ) (keys : List Key) : Type 0 where

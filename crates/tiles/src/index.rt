@@ -1,8 +1,8 @@
 //! An index of fragments by tiles.
 
-ghost use Rattle.std.specs.Prelude.{◌≡◌, ℕ, ◌+◌, ◌++◌, ◌-◌, ◌*◌, ◌<◌, ◌≤◌, false, Some, IfOk, ℤ, pos, ◌+ℤ◌, ◌-ℤ◌, ◌*ℤ◌, ◌≤ℤ◌, ◌<ℤ◌, unsigned_abs, List, take, drop, length, slice_get, Contains};
-ghost use Rattle.tiles.specs.Index.{AreSizes, AreByRows};
-ghost use Rattle.tiles.specs.Keys.{square_at};
+ghost use Rattle.std.specs.Prelude.{◌≡◌, ℕ, ◌+◌, ◌++◌, ◌-◌, ◌*◌, ◌<◌, ◌≤◌, true, false, Some, IfOk, ℤ, pos, ◌+ℤ◌, ◌-ℤ◌, ◌*ℤ◌, ◌≤ℤ◌, ◌<ℤ◌, unsigned_abs, List, take, drop, length, slice_get, Contains};
+ghost use Rattle.tiles.specs.Index.{AreInOrder, AreSizes};
+ghost use Rattle.tiles.specs.Keys.{is_before, square_at};
 
 use crate::groups::groups_of;
 use crate::key::{Square, sorted_keys};
@@ -168,30 +168,43 @@ impl TileIndex {
         Touched::new(self, *rect)
     }
 
-    /// From where up to where the tiles lie whose rows the rectangle reaches. It reaches no other tile.
-    pub fn band(&self, rect: &Rect) -> (u32, u32)
-        ensures within { (result.0 ≤ tile_count self.now) × (result.1 ≤ tile_count self.now) }
-        ensures before { (k : ℕ) → k < result.0 → meet_tile self.now rect.now k ≡ false }
-        ensures after { (k : ℕ) → result.1 ≤ k → k < tile_count self.now → meet_tile self.now rect.now k ≡ false }
-    {
-        let (low, high) = rows_of(rect, self.side, self.halo);
-        (
-            first_from_row(&self.squares, low),
-            first_from_row(&self.squares, high),
-        )
-    }
-
-    /// The first of the tiles from one number up to another that a rectangle reaches.
-    pub(crate) fn first_met(&self, rect: &Rect, from: u32, end: u32) -> Option<u32>
+    /// The first of the tiles from one number up to another that a rectangle reaches. It may be any rectangle. Those that
+    /// lie beside it in a row are not looked at one by one.
+    pub fn first_met(&self, rect: &Rect, from: u32, end: u32) -> Option<u32>
         requires { end ≤ tile_count self.now }
         ensures { IsFirstMet self.now rect.now from end result }
     {
-        for tile in from..end {
-            if self.meets(tile, rect) {
-                return Some(tile);
+        let mut at = from;
+        while at < end {
+            let next = self.missed_upto(rect, at, end);
+            if next == at {
+                return Some(at);
             }
+            at = next;
         }
         None
+    }
+
+    /// This tile if the rectangle reaches it. Else a later one, or the end, before which it reaches none from this one on.
+    fn missed_upto(&self, rect: &Rect, at: u32, end: u32) -> u32
+        requires order { at < end }
+        requires end { end ≤ tile_count self.now }
+        ensures from { at ≤ result }
+        ensures upto { result ≤ end }
+        ensures met { result ≡ at → meet_tile self.now rect.now at ≡ true }
+        ensures missed { (k : ℕ) → at ≤ k → k < result → meet_tile self.now rect.now k ≡ false }
+    {
+        if self.meets(at, rect) {
+            return at;
+        }
+        let square = self.squares[at as usize];
+        let (low, high) = lines_between(rect.y0, rect.y1, self.side, self.halo);
+        if high <= i64::from(square.b) {
+            return end;
+        }
+        let (left, right) = lines_between(rect.x0, rect.x1, self.side, self.halo);
+        let row = next_row(square, low, right);
+        first_from(&self.squares, row, left).max(at + 1).min(end)
     }
 }
 
@@ -209,26 +222,48 @@ fn grown(number: i32, side: i32, halo: i32) -> (i32, i32)
     (low - halo, low + side + halo)
 }
 
-/// The lowest row of squares that a rectangle reaches, and the lowest one above it that it doesn't.
-fn rows_of(rect: &Rect, side: i32, halo: i32) -> (i64, i64)
+/// The lowest row of squares that reaches into the coordinates from `start` up to `end`, and the lowest one above it that
+/// doesn't. Columns are as rows are.
+fn lines_between(start: i32, end: i32, side: i32, halo: i32) -> (i64, i64)
     requires { AreSizes side halo }
-    ensures low { (b : ℤ) → b <ℤ result.0 → (b *ℤ side +ℤ side +ℤ halo) ≤ℤ rect.now.y0 }
-    ensures high { (b : ℤ) → result.1 ≤ℤ b → rect.now.y1 ≤ℤ (b *ℤ side -ℤ halo) }
+    ensures low { (n : ℤ) → n <ℤ result.0 → (n *ℤ side +ℤ side +ℤ halo) ≤ℤ start }
+    ensures high { (n : ℤ) → result.1 ≤ℤ n → end ≤ℤ (n *ℤ side -ℤ halo) }
 {
     let side = i64::from(side);
     let halo = i64::from(halo);
-    let low = (i64::from(rect.y0) - halo).div_euclid(side);
-    let high = (i64::from(rect.y1) + halo - 1).div_euclid(side);
+    let low = (i64::from(start) - halo).div_euclid(side);
+    let high = (i64::from(end) + halo - 1).div_euclid(side);
     (low, high + 1)
 }
 
-/// The first of the squares in this row or above it.
-fn first_from_row(squares: &[Square], row: i64) -> u32
-    requires few { length squares.now ≤ 32768 }
-    requires rows { AreByRows squares.now }
-    ensures within { result ≤ length squares.now }
-    ensures before { (k : ℕ) → k < result → (square_at squares.now k).b <ℤ row }
-    ensures after { (k : ℕ) → result ≤ k → k < length squares.now → row ≤ℤ (square_at squares.now k).b }
+/// The row in which to go on after a square, from row `low` on, where no column from `right` on is looked for.
+fn next_row(square: Square, low: i64, right: i64) -> i64
+    ensures from { low ≤ℤ result }
+    ensures between { (b : ℤ) → low ≤ℤ b → square.b ≤ℤ b → b <ℤ result → (b ≡ square.b) × (right ≤ℤ square.a) }
 {
-    squares.partition_point(|square| i64::from(square.b) < row) as u32
+    let row = i64::from(square.b);
+    let row = if i64::from(square.a) < right {
+        row
+    } else {
+        row + 1
+    };
+    row.max(low)
+}
+
+/// The first of the squares that doesn't stand before this column of this row.
+fn first_from(squares: &[Square], row: i64, column: i64) -> u32
+    requires few { length squares.now ≤ 32768 }
+    requires order { AreInOrder squares.now }
+    ensures before { (k : ℕ) → k < result → is_before (square_at squares.now k) row column ≡ true }
+    ensures after { (k : ℕ) → result ≤ k → k < length squares.now → is_before (square_at squares.now k) row column ≡ false }
+{
+    squares.partition_point(|square| is_before(*square, row, column)) as u32
+}
+
+/// Whether a square stands before this column of this row: in a lower row, or in this one further to the left.
+fn is_before(square: Square, row: i64, column: i64) -> bool
+    ensures { result ≡ is_before square row column }
+{
+    let b = i64::from(square.b);
+    b < row || b == row && i64::from(square.a) < column
 }

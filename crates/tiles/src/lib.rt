@@ -13,7 +13,7 @@
 //!
 //! Contracts see an index as its side, its halo and the list of its tiles. The clauses that matter: `build` gives the
 //! tiling of the fragments, each of which stands in one tile, once; and `touched` gives exactly the tiles whose grown
-//! square meets the rectangle.
+//! square meets the rectangle, as `first_met` gives the first of some of them.
 #![tactic(auto)]
 
 mod groups;

@@ -31,6 +31,14 @@ const BELOW_ZERO: Rect = Rect {
     y1: -10,
 };
 
+/// Its sides stand in two rows of five tiles of 16 by 16 pixels.
+const BAR: Rect = Rect {
+    x0: 0,
+    y0: 0,
+    x1: 80,
+    y1: 20,
+};
+
 fn square(alloc: Global) -> Result<Region, NoMemory>
     ensures { IfOk result (λ region. region ≡ SQUARE ∷ []) }
 {
@@ -44,6 +52,14 @@ fn square_below_zero(alloc: Global) -> Result<Region, NoMemory>
 {
     let mut rects = Vec::new(alloc);
     rects.push(BELOW_ZERO)?;
+    Ok(Region::from_rects(rects))
+}
+
+fn bar(alloc: Global) -> Result<Region, NoMemory>
+    ensures { IfOk result (λ region. region ≡ BAR ∷ []) }
+{
+    let mut rects = Vec::new(alloc);
+    rects.push(BAR)?;
     Ok(Region::from_rects(rects))
 }
 
@@ -108,6 +124,47 @@ fn tiles_below_zero(rt: HostRuntime) -> Result<(), Fail> {
         y1: -13,
     };
     assert_eq!(rt; index.square(0), first);
+    Ok(())
+}
+
+#[test]
+fn tiles_of_two_rows(rt: HostRuntime) -> Result<(), Fail> {
+    let region = bar(rt.alloc())?;
+    let fragments = cut(rt.alloc(), &region, &RULES)?;
+    let index = TileIndex::build(rt.alloc(), &fragments, 16, 1)?;
+    assert_eq!(rt; index.count(), 10);
+
+    // Tile 2 sees the pixels from x = 31 up to 49, and from y = -1 up to 17, and tile 7 stands above it.
+    let middle = Rect {
+        x0: 33,
+        y0: 4,
+        x1: 47,
+        y1: 17,
+    };
+    let mut touched = index.touched(&middle);
+    assert_eq!(rt; touched.next(), Some(2));
+    assert_eq!(rt; touched.next(), Some(7));
+    assert_eq!(rt; touched.next(), None);
+    assert_eq!(rt; index.first_met(&middle, 3, 7), None);
+
+    // Tile 6 sees the pixels from x = 15 on, and tile 1 those up to y = 17.
+    let left = Rect {
+        x0: -5,
+        y0: 17,
+        x1: 16,
+        y1: 22,
+    };
+    let mut touched = index.touched(&left);
+    assert_eq!(rt; touched.next(), Some(5));
+    assert_eq!(rt; touched.next(), Some(6));
+    assert_eq!(rt; touched.next(), None);
+    let beside = Rect {
+        x0: 81,
+        y0: -9,
+        x1: 90,
+        y1: 40,
+    };
+    assert_eq!(rt; index.touched(&beside).next(), None);
     Ok(())
 }
 

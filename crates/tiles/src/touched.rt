@@ -24,7 +24,7 @@ fn overlap(a: i32, b: i32, c: i32, d: i32) -> bool
     a.max(c) < b.min(d)
 }
 
-/// The tiles that a rectangle reaches, in ascending order. Those of rows that it doesn't reach are not looked at.
+/// The tiles that a rectangle reaches, in ascending order.
 #[derive(Drop)]
 pub struct Touched<'a> {
     index: &'a TileIndex,
@@ -52,12 +52,11 @@ impl<'a> Touched<'a> {
     pub(crate) fn new(index: &'a TileIndex, rect: Rect) -> Self
         ensures { result ≡ touched_tiles index.now rect }
     {
-        let (next, end) = index.band(&rect);
         Touched {
             index,
             rect,
-            next,
-            end,
+            next: 0,
+            end: index.count(),
         }
     }
 }
