@@ -4,13 +4,15 @@ use Rattle.std.proofs.lemmas.Int.{ints}
 use Rattle.std.proofs.Math.IntN.{*ℤ-zero}
 use Rattle.opc_base.specs.Lanes.{rect_change}
 use Rattle.opc_base.specs.declared.kernels.KernelSet.{KernelSet}
+use Rattle.opc_base.specs.declared.moves.Swept.{Swept}
 use Rattle.opc_base.specs.declared.plane.Pix.{Pix}
 use Rattle.opc_base.specs.declared.plane.Rect.{Rect}
 use Rattle.outline_model.specs.declared.fragment.Fragment.{Fragment}
 use Rattle.outline_model.specs.Outline.{site_of}
 use Rattle.tiles.specs.Meets.{AddsNothing, meet}
 use Rattle.tiles.proofs.MeetLaws.{IsNearBy, SeesWithin, site_near, unmet}
-use Rattle.opc_parallel.specs.Conditions.{window_of}
+use Rattle.opc_parallel.specs.Conditions.{IsUnseen, window_of}
+use Rattle.opc_parallel.specs.Stored.{Setting, sample_at, sample_change}
 
 -- one coordinate of what is seen from a place lies in the window of a place near by
 in_window : (p q : ℤ) (reach n : ℕ) → unsigned_abs (p -ℤ q) ≤ n →
@@ -36,6 +38,11 @@ unseen set at rect sign lane away =
 
     window : SeesWithin set.reach at (window_of (pos set.reach) at)
     window = record { left = low at.x set.reach; right = high at.x set.reach; below = low at.y set.reach; above = high at.y set.reach }
+
+-- nor does one that none of them sees from a sample of a fragment
+pub unseen_sample : (s : Setting) (swept : Swept) (i k lane : ℕ) → IsUnseen s i k swept.rect → sample_change s swept i k lane ≡ pos 0
+unfolding sample_change
+unseen_sample s swept i k lane away = unseen s.set (sample_at s i k) swept.rect swept.sign lane away
 
 -- and one that none of them sees from any sample of a fragment adds nothing there
 pub unseen_fragment : (set : KernelSet) (n : ℕ) (f : Fragment) (rect : Rect) → meet (window_of (pos (set.reach + n)) (site_of f (negsuc 0))) rect ≡ false → AddsNothing set n f rect

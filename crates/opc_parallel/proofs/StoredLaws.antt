@@ -14,7 +14,7 @@ use Rattle.opc_base.specs.Sums.{sum_each}
 use Rattle.opc_base.specs.declared.kernels.KernelSet.{KernelSet}
 use Rattle.opc_base.specs.declared.moves.Swept.{Swept}
 use Rattle.opc_base.specs.declared.plane.Pix.{Pix}
-use Rattle.opc_base.proofs.ChangeLaws.{CanRise-back, CanRise-front, RisesBy-none, RisesBy-same}
+use Rattle.opc_base.proofs.ChangeLaws.{CanRise-back, CanRise-front, RisesBetween-join, RisesBy-none, RisesBy-same}
 use Rattle.opc_base.proofs.SumLaws.{sum_each-same, sum_each_start}
 use Rattle.lane_intensity.specs.Differences.{AreLanes}
 use Rattle.outline_model.specs.Outline.{fragment_at, site_of}
@@ -253,6 +253,31 @@ can_take s list sums ready size stays = record { fits = λ m few. record { fits 
         let change = list_change-number s (take m list) q (get_or (by_place s.tiling) q 0) (j / lanes) (j % lanes) ready.bounds is k_below (mod_below j lanes some) in
         subst (λ v. unsigned_abs (get_or sums v (pos 0) +ℤ list_change s (take m list) (0 + v)) ≤ 2 ^ 62) number (rw change small)
 
+-- a number to which nothing is added
+stays : (x y : ℤ) → y ≡ pos 0 → x ≡ x +ℤ y
+stays x y none = rw none (omega (arith, ints))
+
+-- a slice to which nothing is added between two places
+pub RisesBetween-still : (change : ℕ → ℤ) (base low high : ℕ) (xs : List ℤ) → ((i : ℕ) → i < length xs → low ≤ i → i < high → change (base + i) ≡ pos 0) →
+    RisesBetween change base low high xs xs
+RisesBetween-still change base low high xs still = record {
+  same_length = refl;
+  inside = λ i from upto below. stays (get_or xs i (pos 0)) (change (base + i)) (still i below from upto);
+  before = λ i below. refl;
+  after = λ i from. refl;
+}
+
+-- nothing is added to tiles that it doesn't reach
+pub RisesBetween-past : (s : Setting) (swept : Swept) (first next tile : ℕ) (old xs : List ℤ) → IsReady s → first ≤ next → next ≤ tile → tile ≤ tile_count s.tiling →
+    ((k : ℕ) → next ≤ k → k < tile → meet_tile s.tiling swept.rect k ≡ false) →
+    RisesBetween (change_at s swept) (start_at s first) 0 (start_at s next - start_at s first) old xs →
+    RisesBetween (change_at s swept) (start_at s first) 0 (start_at s tile - start_at s first) old xs
+RisesBetween-past s swept first next tile old xs ready from up within missed rises =
+    let base : ℕ = start_at s first in
+    RisesBetween-join _ base 0 (start_at s next - base) (start_at s tile - base) old xs xs (omega arith) (omega (arith, start_at-ascend s next tile up within)) rises
+    (RisesBetween-still _ base (start_at s next - base) (start_at s tile - base) xs (λ i below low high.
+    untouched_range s swept next tile (base + i) ready (omega (arith, up, within)) within missed (omega (arith, low)) (omega (arith, high))))
+
 -- a slice that rises between two places, where nothing is added at the others
 pub RisesBy-inside : (change : ℕ → ℤ) (base low high : ℕ) (xs ys : List ℤ) → RisesBetween change base low high xs ys →
     ((i : ℕ) → i < length xs → i < low → change (base + i) ≡ pos 0) → ((i : ℕ) → i < length xs → high ≤ i → change (base + i) ≡ pos 0) → RisesBy change base xs ys
@@ -266,9 +291,6 @@ RisesBy-inside change base low high xs ys rises under over = record {
       (cases_lt i high))
       (cases_lt i low);
 }
-  where
-    stays : (x y : ℤ) → y ≡ pos 0 → x ≡ x +ℤ y
-    stays x y none = rw none (omega (arith, ints))
 
 -- a part of small numbers that are as they were before
 pub AreLanes-kept : (a k n : ℕ) (old xs : List ℤ) → AreLanes (length old) (2 ^ 62) old → k ≡ n → a + n ≤ length xs → length xs ≡ length old →

@@ -1,13 +1,13 @@
 //! What is added to the sums of one fragment.
 
-ghost use Rattle.std.specs.Prelude.{◌≡◌, ◌+◌, ◌*◌, ◌/◌, ◌%◌, ◌^◌, ◌<◌, ◌≤◌, pos, ◌≤ℤ◌, length};
+ghost use Rattle.std.specs.Prelude.{◌≡◌, ℕ, false, ◌+◌, ◌*◌, ◌/◌, ◌%◌, ◌^◌, ◌<◌, ◌≤◌, pos, ◌≤ℤ◌, length};
 ghost use Rattle.opc_base.specs.Changes.{RisesBy};
 ghost use Rattle.opc_base.specs.Lanes.{lane_count, rect_change};
 ghost use Rattle.opc_base.specs.Plane.{IsPixWithin};
 ghost use Rattle.lane_intensity.specs.Differences.{AreLanes};
 ghost use Rattle.tiles.specs.Meets.{meet};
-ghost use Rattle.opc_parallel.specs.Stored.{sample_change, stride_of};
-ghost use Rattle.opc_parallel.specs.Conditions.{IsReady, IsSweepable, setting_of, window_of};
+ghost use Rattle.opc_parallel.specs.Stored.{sample_at, sample_change, stride_of};
+ghost use Rattle.opc_parallel.specs.Conditions.{IsReady, IsSweepable, IsUnseen, setting_of, window_of};
 
 use crate::work::Work;
 use lane_intensity::add_rect;
@@ -46,7 +46,7 @@ pub fn add_if_near<L: Ledger>(
     }
 }
 
-/// Adds a rectangle to all samples of a fragment.
+/// Adds a rectangle to the samples of a fragment, from the first that sees it up to the last that does.
 fn add_to_fragment<L: Ledger>(
     work: &Work,
     swept: Swept,
@@ -62,18 +62,19 @@ fn add_to_fragment<L: Ledger>(
     ensures cost { steps.new ≤ steps.old + 8 * work.now.samples }
 {
     let lanes = work.tables.lanes();
-    for sample in 0..2 * work.samples {
-        let at = work
-            .fragments
-            .site(number, sample as i32 - work.samples as i32);
+    let first = first_seeing(work, number, &swept.rect);
+    let end = end_of_seeing(work, number, &swept.rect, first);
+    for sample in first..end {
+        let at = sample_site(work, number, sample);
         let start = sample as usize * lanes;
         let own = &mut sums[start..start + lanes];
-        add_if_seen(own, work.tables, at, swept, steps);
+        add_to_sample(own, work.tables, at, swept, steps);
     }
 }
 
-/// Adds a rectangle to the lanes of a pixel that sees it. To any other pixel it adds nothing.
-fn add_if_seen<L: Ledger>(
+/// Adds a rectangle to the lanes of a pixel.
+#[inline]
+fn add_to_sample<L: Ledger>(
     acc: &mut [i64],
     tables: &Tables,
     at: Pix,
@@ -86,9 +87,61 @@ fn add_if_seen<L: Ledger>(
     ensures rises { RisesBy (rect_change tables.now swept.rect swept.sign at.x at.y) 0 acc.old acc.new }
     ensures cost { steps.new ≤ steps.old + 4 }
 {
-    if sees(tables.reach(), at, &swept.rect) {
-        add_rect(acc, tables, at, swept.rect, swept.sign, steps);
+    add_rect(acc, tables, at, swept.rect, swept.sign, steps);
+}
+
+/// The first sample of a fragment that sees a rectangle, or the number of all samples.
+fn first_seeing(work: &Work, number: u32, rect: &Rect) -> u32
+    requires ready { IsReady (setting_of work.now) }
+    requires number { number < length work.now.fragments.now }
+    ensures within { result ≤ 2 * work.now.samples }
+    ensures before { (k : ℕ) → k < result → IsUnseen (setting_of work.now) number k rect.now }
+{
+    let mut first = 0;
+    while first < 2 * work.samples && !sample_sees(work, number, first, rect) {
+        first += 1;
     }
+    first
+}
+
+/// The sample after the last one from `first` on that sees a rectangle, or `first`.
+fn end_of_seeing(work: &Work, number: u32, rect: &Rect, first: u32) -> u32
+    requires ready { IsReady (setting_of work.now) }
+    requires number { number < length work.now.fragments.now }
+    requires first { first ≤ 2 * work.now.samples }
+    ensures order { first ≤ result }
+    ensures within { result ≤ 2 * work.now.samples }
+    ensures after { (k : ℕ) → result ≤ k → k < 2 * work.now.samples → IsUnseen (setting_of work.now) number k rect.now }
+{
+    let mut end = 2 * work.samples;
+    while end > first && !sample_sees(work, number, end - 1, rect) {
+        end -= 1;
+    }
+    end
+}
+
+/// Whether a sample of a fragment sees a rectangle. The innermost sample is number 0.
+#[inline]
+fn sample_sees(work: &Work, number: u32, sample: u32, rect: &Rect) -> bool
+    requires ready { IsReady (setting_of work.now) }
+    requires number { number < length work.now.fragments.now }
+    requires sample { sample < 2 * work.now.samples }
+    ensures unseen { result ≡ false → IsUnseen (setting_of work.now) number sample rect.now }
+{
+    sees(work.tables.reach(), sample_site(work, number, sample), rect)
+}
+
+/// The pixel of a sample of a fragment. The innermost sample is number 0.
+#[inline]
+fn sample_site(work: &Work, number: u32, sample: u32) -> Pix
+    requires ready { IsReady (setting_of work.now) }
+    requires number { number < length work.now.fragments.now }
+    requires sample { sample < 2 * work.now.samples }
+    ensures site { result ≡ sample_at (setting_of work.now) number sample }
+    ensures within { IsPixWithin 1048100 result }
+{
+    work.fragments
+        .site(number, sample as i32 - work.samples as i32)
 }
 
 /// Whether the rectangle has a pixel no further than this from a pixel, in x and in y.

@@ -1,18 +1,17 @@
 //! What the owner of some tiles adds to them.
 
-ghost use Rattle.std.specs.Prelude.{◌≡◌, ℕ, ◌+◌, ◌*◌, ◌^◌, ◌<◌, ◌≤◌, true, false, All, length};
+ghost use Rattle.std.specs.Prelude.{◌≡◌, ◌+◌, ◌*◌, ◌^◌, ◌<◌, ◌≤◌, All, length};
 ghost use Rattle.opc_base.specs.Changes.{RisesBy};
 ghost use Rattle.lane_intensity.specs.Differences.{AreLanes};
 ghost use Rattle.tiles.specs.Tiles.{fragments_of, tile_count};
-ghost use Rattle.tiles.specs.Meets.{meet_tile, touched_between};
+ghost use Rattle.tiles.specs.Meets.{touched_between};
 ghost use Rattle.opc_parallel.specs.Stored.{CanTake, change_at, list_change, most_steps, start_at};
 ghost use Rattle.opc_parallel.specs.Conditions.{IsReady, IsSweepable, setting_of};
 
 use crate::fragment_sums::{add_if_near, stride};
 use crate::work::Work;
-use opc_base::{Rect, Steps, Swept};
+use opc_base::{Steps, Swept};
 use std::sync::ledger::{Blank, Ledger};
-use tiles::TileIndex;
 
 /// Adds all rectangles to the tiles from `first` up to but not including `last`, at a counter of its own.
 pub fn apply_tiles<L: Ledger>(
@@ -59,27 +58,14 @@ pub fn add_to_tiles<L: Ledger>(
     ensures cost { steps.new ≤ steps.old + most_steps work.now.samples work.now.index.now (touched_between work.now.index.now swept.rect first last) }
 {
     let base = start_of_tile(work, first);
-    let (low, high) = tiles_near(work.index, &swept.rect, first, last);
-    for tile in low..high {
+    let mut next = first;
+    while let Some(tile) = work.index.first_met(&swept.rect, next, last) {
         let start = start_of_tile(work, tile) - base;
         let end = start_of_tile(work, tile + 1) - base;
         let own = &mut sums[start..end];
-        add_if_met(work, swept, tile, own, steps);
+        add_to_tile(work, swept, tile, own, steps);
+        next = tile + 1;
     }
-}
-
-/// From where up to where those of these tiles lie that a rectangle may reach.
-fn tiles_near(index: &TileIndex, rect: &Rect, first: u32, last: u32) -> (u32, u32)
-    requires { first ≤ last }
-    ensures low { first ≤ result.0 }
-    ensures order { result.0 ≤ result.1 }
-    ensures high { result.1 ≤ last }
-    ensures before { (k : ℕ) → first ≤ k → k < result.0 → k < tile_count index.now → meet_tile index.now rect.now k ≡ false }
-    ensures after { (k : ℕ) → result.1 ≤ k → k < last → k < tile_count index.now → meet_tile index.now rect.now k ≡ false }
-{
-    let (low, high) = index.band(rect);
-    let low = low.max(first).min(last);
-    (low, high.max(low).min(last))
 }
 
 /// The first of the numbers that are stored for a tile, or the number of all of them.
@@ -89,28 +75,6 @@ pub fn start_of_tile(work: &Work, tile: u32) -> usize
     ensures { result ≡ start_at (setting_of work.now) tile }
 {
     stride(work) * work.index.first_place(tile) as usize
-}
-
-/// Adds a rectangle to a tile if it reaches it.
-fn add_if_met<L: Ledger>(
-    work: &Work,
-    swept: Swept,
-    tile: u32,
-    sums: &mut [i64],
-    steps: &mut Steps<L>,
-)
-    requires ready { IsReady (setting_of work.now) }
-    requires swept { IsSweepable swept }
-    requires tile { tile < tile_count work.now.index.now }
-    requires size { start_at (setting_of work.now) tile + length sums.old ≡ start_at (setting_of work.now) (tile + 1) }
-    requires small { AreLanes (length sums.old) (2 ^ 62) sums.old }
-    ensures rises { RisesBy (change_at (setting_of work.now) swept) (start_at (setting_of work.now) tile) sums.old sums.new }
-    ensures met { meet_tile work.now.index.now swept.rect tile ≡ true → steps.new ≤ steps.old + 8 * work.now.samples * length (fragments_of work.now.index.now tile) }
-    ensures missed { meet_tile work.now.index.now swept.rect tile ≡ false → steps.new ≡ steps.old }
-{
-    if work.index.meets(tile, &swept.rect) {
-        add_to_tile(work, swept, tile, sums, steps);
-    }
 }
 
 /// Adds a rectangle to all fragments of a tile.

@@ -1,211 +1,101 @@
 //! The sums of a target, before any fragment has moved.
 
-ghost use Rattle.std.specs.Prelude.{◌≡◌, ℕ, ◌+◌, ◌++◌, ◌*◌, ◌<◌, ◌≤◌, ℤ, List, [], ◌∷◌, Contains, All, IfOk, OnOk, cond, length, unsigned_abs};
-ghost use Rattle.lane_intensity.specs.Differences.{IsCornerInRange};
-ghost use Rattle.opc_base.specs.Lanes.{AddUpNear, LanesAre, amplitude_of_lane, lane_count, weights_of};
-ghost use Rattle.opc_base.specs.Optics.{KeepsBounds};
-ghost use Rattle.opc_base.specs.Plane.{HaveNoOverlap, IsPixWithin, IsRectWithin, PixelSet, cover};
+ghost use Rattle.std.specs.Prelude.{◌≡◌, ◌*◌, ◌<◌, ◌≤◌, [], All, IfOk, OnOk, length, map, unsigned_abs};
+ghost use Rattle.opc_base.specs.Lanes.{weights_of};
+ghost use Rattle.opc_base.specs.Plane.{IsRectWithin, cover};
 ghost use Rattle.opc_parallel.specs.Stored.{stride_of};
-ghost use Rattle.outline_model.specs.Outline.{fragment_at};
-ghost use Rattle.tiles.specs.Tiles.{first_of, fragments_of, tile_count};
-ghost use Rattle.opc_session.specs.Fills.{AddUpAt, AreRowRects, HoldFirst, is_in_rows};
+ghost use Rattle.opc_session.specs.Fills.{gain};
 ghost use Rattle.opc_session.specs.Kept.{setting_of};
-ghost use Rattle.opc_session.specs.Stores.{AreAmplitudes};
+ghost use Rattle.opc_session.specs.Stores.{HoldAmplitudes};
 
 use crate::readings::stride;
 use crate::scene::Scene;
-use crate::stores::know_tiles;
-use corners::corners_of;
+use crate::stores::{know_tiles, store_all};
 use fragment::{Fragments, Near};
-use lane_intensity::add_corners;
-use opc_base::{Corner, NoMemory, Pix, Rect, Region, Rules, Steps};
+use opc_base::{NoMemory, NoWatch, Rect, Region, Rules, Steps, Swept};
 use prefix_tables::Tables;
 use std::alloc::Global;
 use std::marker::Brand;
 use std::sync::ledger::{Blank, Ledger};
+use std::thread::Threads;
 use tiles::TileIndex;
 
-/// Adds the lanes of a pixel to the list: the ground, and what the corners give.
-fn push_sample<L: Ledger>(
-    sums: &mut Vec<i64>,
-    tables: &Tables,
-    at: Pix,
-    corners: &[Corner],
-    steps: &mut Steps<L>,
-) -> Result<(), NoMemory>
-    requires corners { All (IsCornerInRange 1050000) corners.now }
-    requires few { length corners.now ≤ 1048576 }
-    requires at { IsPixWithin 1050000 at }
-    ensures lanes { OnOk result ((lanes : List ℤ) × (sums.new.items ≡ sums.old.items ++ lanes) × (length lanes ≡ lane_count tables.now)
-        × ((pixels : PixelSet) → AddUpNear tables.now.reach corners.now pixels at.x at.y → LanesAre tables.now (amplitude_of_lane tables.now pixels at.x at.y) lanes)) }
-{
-    let mut room = [0; 32];
-    let lanes = tables.lanes();
-    let own = &mut room[..lanes];
-    own.copy_from_slice(tables.ground());
-    add_corners(own, tables, at, corners, steps);
-    sums.extend_from_slice(own)?;
-    Ok(())
-}
-
-/// Adds the lanes of all samples of fragment `number` to the list.
-fn push_fragment<L: Ledger>(
-    sums: &mut Vec<i64>,
-    scene: &Scene,
-    number: u32,
-    corners: &[Corner],
-    steps: &mut Steps<L>,
-) -> Result<(), NoMemory>
-    requires number { number < length scene.now.fragments }
-    requires corners { All (IsCornerInRange 1050000) corners.now }
-    requires few { length corners.now ≤ 1048576 }
-    ensures own { OnOk result ((own : List ℤ) × (sums.new.items ≡ sums.old.items ++ own)
-        × ((pixels : PixelSet) → AddUpAt scene.now.set.reach (unsigned_abs scene.now.rules.site.samples) (fragment_at scene.now.fragments number) corners.now pixels
-        → AreAmplitudes scene.now.set (unsigned_abs scene.now.rules.site.samples) (fragment_at scene.now.fragments number) pixels own)) }
-{
-    let samples = scene.rules.site.samples.unsigned_abs();
-    for k in 0..2 * samples {
-        let at = scene.fragments.site(number, k as i32 - samples as i32);
-        push_sample(sums, scene.tables, at, corners, steps)?;
-    }
-    Ok(())
-}
-
-/// Adds the numbers of all fragments of a tile to the list.
-fn push_tile<L: Ledger>(
-    sums: &mut Vec<i64>,
-    scene: &Scene,
-    tile: u32,
-    corners: &[Corner],
-    steps: &mut Steps<L>,
-) -> Result<(), NoMemory>
-    requires tile { tile < tile_count scene.now.tiling }
-    requires corners { All (IsCornerInRange 1050000) corners.now }
-    requires few { length corners.now ≤ 1048576 }
-    ensures holds { OnOk result ((pixels : PixelSet) → ((i : ℕ) → Contains (fragments_of scene.now.tiling tile) i
-        → AddUpAt scene.now.set.reach (unsigned_abs scene.now.rules.site.samples) (fragment_at scene.now.fragments i) corners.now pixels)
-        → HoldFirst (setting_of scene.now) pixels (first_of scene.now.tiling tile) sums.old.items
-        → HoldFirst (setting_of scene.now) pixels (first_of scene.now.tiling (tile + 1)) sums.new.items) }
-{
-    for number in scene.index.fragments(tile) {
-        push_fragment(sums, scene, *number, corners, steps)?;
-    }
-    Ok(())
-}
-
-/// The rectangles of a list that may have a pixel in the rows from `low` up to `high`.
-#[derive(Drop)]
-struct RowRects {
-    low: i32,
-    high: i32,
-    rects: Vec<Rect>,
-}
-
-/// Adds a rectangle to the list if it may have a pixel in these rows.
-fn push_if_in_rows(near: &mut Vec<Rect>, rect: Rect, low: i32, high: i32) -> Result<(), NoMemory>
-    ensures { OnOk result (near.new.items ≡ near.old.items ++ cond (is_in_rows low high rect) (rect ∷ []) []) }
-{
-    if rect.y0 < high && low < rect.y1 {
-        near.push(rect)?;
-    }
-    Ok(())
-}
-
-/// Those of the rectangles that may have a pixel in these rows.
-fn rects_in_rows(alloc: Global, rects: &[Rect], low: i32, high: i32) -> Result<RowRects, NoMemory>
-    ensures rows { IfOk result (AreRowRects rects.now) }
-    ensures low { IfOk result (λ rows. rows.low ≡ low) }
-    ensures high { IfOk result (λ rows. rows.high ≡ high) }
-{
-    let mut near = Vec::new(alloc);
-    for rect in rects {
-        push_if_in_rows(&mut near, *rect, low, high)?;
-    }
-    Ok(RowRects {
-        low,
-        high,
-        rects: near,
-    })
-}
-
-/// Takes the rectangles of a square's rows, unless they are at hand.
-fn take_rows(
-    alloc: Global,
-    rects: &[Rect],
-    square: Rect,
-    rows: &mut RowRects,
-) -> Result<(), NoMemory>
-    requires rows { AreRowRects rects.now rows.old }
-    ensures rows { OnOk result (AreRowRects rects.now rows.new) }
-    ensures low { OnOk result (rows.new.low ≡ square.y0) }
-    ensures high { OnOk result (rows.new.high ≡ square.y1) }
-{
-    if rows.low != square.y0 || rows.high != square.y1 {
-        *rows = rects_in_rows(alloc, rects, square.y0, square.y1)?;
-    }
-    Ok(())
-}
-
-/// Adds the numbers of all fragments of a tile to the list, from the corners that its window shows of a region. Of that
-/// only the rectangles of its rows are looked at.
-fn fill_tile<L: Ledger>(
-    alloc: Global,
-    sums: &mut Vec<i64>,
-    scene: &Scene,
-    region: &Region,
-    rows: &mut RowRects,
-    tile: u32,
-    steps: &mut Steps<L>,
-) -> Result<(), NoMemory>
-    requires placed { All (IsRectWithin 1048000) region.now }
-    requires few { length region.now ≤ 262144 }
-    requires tile { tile < tile_count scene.now.tiling }
-    requires rows { AreRowRects region.now rows.old }
-    ensures rows { OnOk result (AreRowRects region.now rows.new) }
-    ensures holds { OnOk result (HoldFirst (setting_of scene.now) (cover region.now) (first_of scene.now.tiling tile) sums.old.items
-        → HoldFirst (setting_of scene.now) (cover region.now) (first_of scene.now.tiling (tile + 1)) sums.new.items) }
+/// How many samples all fragments have.
+fn sample_count(scene: &Scene) -> usize
+    ensures { result ≡ 2 * unsigned_abs scene.now.rules.site.samples * length scene.now.fragments }
 {
     know_tiles(scene);
-    let square = scene.index.square(tile);
-    take_rows(alloc, region.rects(), square, rows)?;
-    let corners = corners_of(alloc, &rows.rects, square)?;
-    push_tile(sums, scene, tile, &corners, steps)?;
-    Ok(())
+    2 * scene.rules.site.samples as usize * scene.fragments.count() as usize
 }
 
-/// The sums of all fragments of a target, tile by tile, each from the corners that its window shows, at a counter of its
-/// own.
-fn filled_sums<L: Ledger>(
-    alloc: Global,
-    scene: &Scene,
-    region: &Region,
-    blank: Blank,
-) -> Result<Vec<i64>, NoMemory>
-    requires placed { All (IsRectWithin 1048000) region.now }
-    requires few { length region.now ≤ 262144 }
-    requires name { blank.name ≡ L.name }
-    requires parts { blank.parts ≡ L.parts }
-    requires some { 0 < blank.parts }
-    ensures holds { IfOk result (λ sums. HoldFirst (setting_of scene.now) (cover region.now) (length scene.now.fragments) sums.items) }
+/// The sums where no pixel is covered: each sample of each fragment has the ground.
+fn uncovered_sums(alloc: Global, scene: &Scene) -> Result<Vec<i64>, NoMemory>
+    ensures size { IfOk result (λ sums. length sums.items ≡ stride_of (setting_of scene.now) * length scene.now.fragments) }
+    ensures holds { IfOk result (λ sums. HoldAmplitudes (setting_of scene.now) (cover []) sums.items) }
 {
     know_tiles(scene);
     let size = stride(scene) * scene.fragments.count() as usize;
     let mut sums = Vec::with_capacity(alloc, size)?;
-    let mut rows = rects_in_rows(alloc, region.rects(), 0, 0)?;
-    let mut steps: Steps<L> = Steps::new(blank);
-    for tile in 0..scene.index.count() {
-        fill_tile(alloc, &mut sums, scene, region, &mut rows, tile, &mut steps)?;
+    for _sample in 0..sample_count(scene) {
+        sums.extend_from_slice(scene.tables.ground())?;
     }
     Ok(sums)
 }
 
-/// The sums of all fragments of a target, before any has moved.
-pub fn first_sums(alloc: Global, scene: &Scene, region: &Region) -> Result<Vec<i64>, NoMemory>
+/// What each rectangle adds to a mask that has none of its pixels.
+fn gains_of(alloc: Global, rects: &[Rect]) -> Result<Vec<Swept>, NoMemory>
+    ensures { IfOk result (λ gains. gains.items ≡ map gain rects.now) }
+{
+    let mut gains = Vec::with_capacity(alloc, rects.len())?;
+    for rect in rects {
+        gains.push(Swept {
+            rect: *rect,
+            sign: 1,
+        })?;
+    }
+    Ok(gains)
+}
+
+/// Adds the rectangles of a region to the sums where no pixel is covered, in parts that run side by side. The steps are
+/// counted for no one.
+fn add_region<R: Threads + Sync, L: Ledger>(
+    rt: &R,
+    alloc: Global,
+    scene: &Scene,
+    sums: &mut [i64],
+    region: &Region,
+    blank: Blank,
+) -> Result<(), NoMemory>
     requires placed { All (IsRectWithin 1048000) region.now }
     requires few { length region.now ≤ 262144 }
-    ensures holds { IfOk result (λ sums. HoldFirst (setting_of scene.now) (cover region.now) (length scene.now.fragments) sums.items) }
+    requires size { length sums.old ≡ stride_of (setting_of scene.now) * length scene.now.fragments }
+    requires holds { HoldAmplitudes (setting_of scene.now) (cover []) sums.old }
+    requires name { blank.name ≡ L.name }
+    requires parts { blank.parts ≡ L.parts }
+    requires some { 0 < blank.parts }
+    ensures holds { OnOk result (HoldAmplitudes (setting_of scene.now) (cover region.now) sums.new) }
 {
-    filled_sums::<Brand>(alloc, scene, region, Blank::new(1))
+    let gains = gains_of(alloc, region.rects())?;
+    let mut steps: Steps<L> = Steps::new(blank);
+    store_all(rt, scene, sums, &gains, &NoWatch, &mut steps);
+    Ok(())
+}
+
+/// The sums of all fragments of a target, before any has moved.
+pub fn first_sums<R: Threads + Sync>(
+    rt: &R,
+    alloc: Global,
+    scene: &Scene,
+    region: &Region,
+) -> Result<Vec<i64>, NoMemory>
+    requires placed { All (IsRectWithin 1048000) region.now }
+    requires few { length region.now ≤ 262144 }
+    ensures size { IfOk result (λ sums. length sums.items ≡ stride_of (setting_of scene.now) * length scene.now.fragments) }
+    ensures holds { IfOk result (λ sums. HoldAmplitudes (setting_of scene.now) (cover region.now) sums.items) }
+{
+    let mut sums = uncovered_sums(alloc, scene)?;
+    add_region::<R, Brand>(rt, alloc, scene, &mut sums, region, Blank::new(1))?;
+    Ok(sums)
 }
 
 /// What a session works on.

@@ -124,7 +124,7 @@ pub fn make_round<R: Threads + Sync, W: Watch + Sync, L: Ledger>(
     ensures made { RoundMade scene.now offsets.old offsets.new result steps.old steps.new }
 {
     know_tiles(scene);
-    find_errors(scene, sums, errors);
+    find_errors(rt, scene, sums, errors);
     let totals = totals_of(errors);
     let moved = make_steps(rt, scene, errors, offsets, sums, swept, watch, steps);
     RoundSummary {

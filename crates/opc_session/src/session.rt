@@ -73,7 +73,7 @@ impl<'a> Session<'a> {
     ///
     /// The fragments are cut from the region by these rules, which it keeps.
     pub fn open<R: Threads + Sync>(
-        _rt: &R,
+        rt: &R,
         alloc: Global,
         fragments: &'a Fragments,
         region: &Region,
@@ -93,7 +93,7 @@ impl<'a> Session<'a> {
     {
         let scene = scene_of(alloc, fragments, tables, weights, rules)?;
         know_tiles(&scene);
-        let sums = first_sums(alloc, &scene, region)?;
+        let sums = first_sums(rt, alloc, &scene, region)?;
         let _ = region.rects();
         let count = fragments.count() as usize;
         let offsets = vec![in alloc; 0; count]?;

@@ -8,5 +8,5 @@ use Rattle.opc_parallel.proofs.fragment_sums.add_to_fragment.Given as goal
 abbrev pub invariant-loop-sample : goal.invariant-loop-sample
 invariant-loop-sample g l =
     let set = l.work.tables.now in
-    (RisesBetween (λ n. sample_change (setting_of l.work) l.swept l.number (n / lane_count set) (n % lane_count set)) 0 0 (l.sample * lane_count set) l.fn.sums l.sums)
+    (RisesBetween (λ n. sample_change (setting_of l.work) l.swept l.number (n / lane_count set) (n % lane_count set)) 0 (l.first * lane_count set) (l.sample * lane_count set) l.fn.sums l.sums)
     × (l.steps ≤ l.fn.steps + 4 * l.sample)

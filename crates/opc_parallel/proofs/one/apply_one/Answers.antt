@@ -1,10 +1,9 @@
-use Rattle.std.proofs.Common.{◌≡◌, ℕ, ◌+◌, ◌*◌, ◌≤◌, ℤ, pos, ◌+ℤ◌, ◌≤ℤ◌, [], ◌∷◌, unsigned_abs, length, w32, sym, subst, ap, ◌∙◌, arith}
-use Rattle.std.proofs.lemmas.Int.{ints, to_z-of_z}
+use Rattle.std.proofs.Common.{◌≡◌, ◌*◌, [], ◌∷◌, unsigned_abs, length, w32, sym, subst, ap, ◌∙◌, arith}
+use Rattle.std.proofs.lemmas.Int.{to_z-of_z}
 use Rattle.opc_base.specs.Changes.{RisesBy}
-use Rattle.lane_intensity.specs.Differences.{AreLanes}
-use Rattle.tiles.specs.Tiles.{by_place, tile_count}
+use Rattle.tiles.specs.Tiles.{by_place}
 use Rattle.opc_parallel.specs.Conditions.{IsReady}
-use Rattle.opc_parallel.specs.Stored.{Setting, change_at, most_steps, start_at, stride_of}
+use Rattle.opc_parallel.specs.Stored.{Setting, change_at, start_at, stride_of}
 use Rattle.tiles.proofs.TouchedLaws.{touched_between-all}
 use Rattle.opc_parallel.proofs.StoredLaws.{adds_one, all_small, can_take, few_samples, halo_is, ready_is, some_samples, start_end, start_zero}
 use Rattle.opc_parallel.proofs.one.apply_one.Goals as goal

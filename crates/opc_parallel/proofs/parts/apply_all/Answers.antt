@@ -1,5 +1,5 @@
-use Rattle.std.proofs.Common.{◌≡◌, ℕ, ◌+◌, ◌*◌, ◌≤◌, ℤ, pos, ◌+ℤ◌, ◌≤ℤ◌, unsigned_abs, length, min, w32, sym, subst, ap, ◌∙◌, arith}
-use Rattle.std.proofs.lemmas.Int.{ints, to_z-of_z}
+use Rattle.std.proofs.Common.{◌≡◌, ℕ, ◌*◌, ◌≤◌, unsigned_abs, length, min, w32, sym, subst, ap, ◌∙◌, arith}
+use Rattle.std.proofs.lemmas.Int.{to_z-of_z}
 use Rattle.opc_base.specs.Changes.{RisesBy}
 use Rattle.tiles.specs.Tiles.{by_place, tile_count}
 use Rattle.opc_parallel.specs.Conditions.{IsReady}

@@ -8,5 +8,9 @@ use Rattle.opc_parallel.proofs.tile_sums.add_to_tiles.Given as goal
 abbrev pub invariant-loop-tile : goal.invariant-loop-tile
 invariant-loop-tile g l =
     let s = setting_of l.work in
-    (RisesBetween (change_at s l.swept) (start_at s l.first) (start_at s l.low - start_at s l.first) (start_at s l.tile - start_at s l.first) l.fn.sums l.sums)
-    × (l.steps + most_steps l.work.samples l.work.index.now (touched_between l.work.index.now l.swept.rect l.tile l.high) ≤ l.fn.steps + most_steps l.work.samples l.work.index.now (touched_between l.work.index.now l.swept.rect l.low l.high))
+    (l.first ≤ l.next) × (l.next ≤ l.last)
+    × (RisesBetween (change_at s l.swept) (start_at s l.first) 0 (start_at s l.next - start_at s l.first) l.fn.sums l.sums)
+    × (l.steps + most_steps l.work.samples l.work.index.now (touched_between l.work.index.now l.swept.rect l.next l.last) ≤ l.fn.steps + most_steps l.work.samples l.work.index.now (touched_between l.work.index.now l.swept.rect l.first l.last))
+
+abbrev pub decreases-loop-tile : goal.decreases-loop-tile
+decreases-loop-tile g l = l.last - l.next

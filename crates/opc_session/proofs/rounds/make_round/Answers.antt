@@ -6,7 +6,7 @@ use Rattle.opc_session.proofs.SweepLaws.{TakeSteps-same, greatest_size-same, sum
 use Rattle.opc_session.proofs.rounds.make_round.Goals as goal
 
 pub find_errors-requires-clause-holds : goal.find_errors-requires-clause-holds
-find_errors-requires-clause-holds g c = record { pixels = mask c.args.scene.now.fragments (lines c.args.scene.now.fragments c.args.offsets.now); holds = c.requires.stands.holds }
+find_errors-requires-clause-holds g c κs within = record { pixels = mask c.args.scene.now.fragments (lines c.args.scene.now.fragments c.args.offsets.now); holds = c.requires.stands.holds }
 
 pub totals_of-totals-requires-clause-few : goal.totals_of-totals-requires-clause-few
 totals_of-totals-requires-clause-few g c = omega (arith, c.find_errors.auto.errors, c.requires.room, c.know_tiles.ensures.few)

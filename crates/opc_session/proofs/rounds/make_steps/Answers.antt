@@ -1,4 +1,4 @@
-use Rattle.std.proofs.Common.{◌∙◌, length, take, arith}
+use Rattle.std.proofs.Common.{◌∙◌, take, arith}
 use Rattle.std.proofs.lemmas.List.{length-take}
 use Rattle.outline_model.specs.Outline.{lines, mask}
 use Rattle.opc_session.proofs.rounds.make_steps.Goals as goal
