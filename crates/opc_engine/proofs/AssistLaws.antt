@@ -30,7 +30,7 @@ use Rattle.opc_engine.specs.BarStages.{BarSubject, BarsGive, IsBadKey, NumbersSu
 use Rattle.opc_engine.specs.BarTable.{bar_end, bar_table}
 use Rattle.opc_engine.specs.Corrections.{IsWritten}
 use Rattle.opc_engine.specs.ErrorTable.{round_lines}
-use Rattle.opc_engine.specs.Prepare.{PreparesBy, RulesGive, Subject, TargetKeeps}
+use Rattle.opc_engine.specs.Prepare.{LayoutPrepares, Pattern, PreparesBy, RulesGive, Subject, TargetKeeps}
 use Rattle.opc_engine.specs.Runs.{at_offsets}
 use Rattle.opc_engine.proofs.CorrectionLaws.{answer_one, cut_one, kept, prepares_by_of_cut, prepares_by_one, rules_of_cut, rules_one}
 use Rattle.opc_engine.proofs.RunLaws.{run_by_one}
@@ -66,16 +66,23 @@ record IsJudged (r : Rules) (s : Subject) : Type 0 where
   pub rules : s.rules ≡ r
   pub keeps : KeepsTarget s.rules.mask s.target
 
+layout_keeps : (layout : List ℕ) (r : Rules) (p : Pattern) → LayoutPrepares layout r (Ok p) → KeepsTarget r.mask p.target
+layout_keeps layout r p (inl a) = absurd (not_fault a.0 p (sym a.1.1))
+layout_keeps layout r p (inr (library, (_, inl a))) = absurd (not_fault a.0 p (sym a.1.1))
+layout_keeps layout r p (inr (library, (_, inr (pixels, (_, inl a))))) = absurd (not_fault a.0 p (sym a.1.1))
+layout_keeps layout r p (inr (library, (_, inr (pixels, (_, inr (target, (keeps, inl a))))))) = absurd (not_fault a.0 p (sym a.1.1))
+layout_keeps layout r p (inr (library, (_, inr (pixels, (_, inr (target, (keeps, inr (fragments, (_, is))))))))) =
+    let made : Pattern = record { head = library.head; target = target; fragments = fragments } in
+    let same : made ≡ p = cc in
+    subst (λ (q : Pattern). KeepsTarget r.mask q.target) same (kept r.mask pixels target keeps)
+
 judged : (layout kernels : List ℕ) (r : Rules) (s : Subject) → PreparesBy layout kernels r (Ok s) → IsJudged r s
 judged layout kernels r s (inl a) = absurd (not_fault a.0 s (sym a.1.1))
 judged layout kernels r s (inr (set, (_, inl a))) = absurd (not_fault a.0 s (sym a.1.1))
-judged layout kernels r s (inr (set, (_, inr (library, (_, inl a))))) = absurd (not_fault a.0 s (sym a.1.1))
-judged layout kernels r s (inr (set, (_, inr (library, (_, inr (pixels, (_, inl a))))))) = absurd (not_fault a.0 s (sym a.1.1))
-judged layout kernels r s (inr (set, (_, inr (library, (_, inr (pixels, (_, inr (target, (keeps, inl a))))))))) = absurd (not_fault a.0 s (sym a.1.1))
-judged layout kernels r s (inr (set, (_, inr (library, (_, inr (pixels, (_, inr (target, (keeps, inr (fragments, (_, is))))))))))) =
-    let made : Subject = record { head = library.head; target = target; fragments = fragments; set = set; rules = r } in
+judged layout kernels r s (inr (set, (_, inr (p, (given, is))))) =
+    let made : Subject = record { head = p.head; target = p.target; fragments = p.fragments; set = set; rules = r } in
     let same : made ≡ s = cc in
-    subst (IsJudged r) same (record { rules = refl; keeps = kept r.mask pixels target keeps })
+    subst (IsJudged r) same (record { rules = refl; keeps = layout_keeps layout r p given })
 
 bars_one : (bars : BarRules) (s : Subject) → IsOne (BarsGive bars s)
 bars_one bars s p q a b = a.1.1 ∙ ap Ok (bars_are_unique s.rules.mask bars s.target a.0 b.0 a.1.0 b.1.0) ∙ sym b.1.1

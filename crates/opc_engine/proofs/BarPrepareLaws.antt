@@ -15,7 +15,7 @@ use Rattle.outline_model.specs.Fragmentation.{AreFragments}
 use Rattle.opc_engine.specs.declared.bar_prepare.BarPrepared.{BarPrepared}
 use Rattle.opc_engine.specs.declared.fault.EngineFault.{EngineFault}
 use Rattle.opc_engine.specs.declared.fault.EngineFault.TheVariants as engine
-use Rattle.opc_engine.specs.declared.prepare.Prepared.{Prepared}
+use Rattle.opc_engine.specs.declared.ready.Ready.{Ready}
 use Rattle.opc_engine.specs.BarReady.{HasBars, WholeFails, bar_subject_of}
 use Rattle.opc_engine.specs.BarStages.{NumbersSuit, PreparesBars, WholeGives, with_bars}
 use Rattle.opc_engine.specs.Prepare.{CutGives, PreparesBy, RulesGive, Subject}
@@ -38,7 +38,7 @@ module _ (layout kernels rules : List ℕ) (bars : BarRules) where
       at_files f (inl none) = inl none
       at_files f (inr is) = inr (inr (r, (read, inr (bars, (inr (suited, refl), inl (f, (is, refl)))))))
 
-      module _ (given : Prepared) (ready : PreparesBy layout kernels r (Ok (subject_of given))) where
+      module _ (given : Ready) (ready : PreparesBy layout kernels r (Ok (subject_of given))) where
         pub at_whole : (f : EngineFault) → (f ≡ engine.NoMemory) ⊎ WholeFails (subject_of given) bars f → Ends layout kernels rules bars f
         at_whole f (inl none) = inl none
         at_whole f (inr w) =

@@ -28,7 +28,7 @@ use Rattle.opc_engine.specs.declared.answer.Answer.{Answer}
 use Rattle.opc_engine.specs.declared.fault.EngineFault.{EngineFault}
 use Rattle.opc_engine.specs.declared.fault.EngineFault.TheVariants as engine
 use Rattle.opc_engine.specs.declared.limits.TheConstants.{MAX_KERNELS, MAX_LAYOUT, MAX_RULES}
-use Rattle.opc_engine.specs.declared.prepare.Prepared.{Prepared}
+use Rattle.opc_engine.specs.declared.ready.Ready.{Ready}
 use Rattle.opc_engine.proofs.CorrectionLaws.{answer_one, prepares_of_cut, prepares_one}
 use Rattle.opc_engine.proofs.RunLaws.{run_one}
 use Rattle.opc_engine.proofs.StageLaws.{IsOne, done, not_fault, same_fault, same_value, then_map, then_one}
@@ -36,7 +36,7 @@ use Rattle.opc_engine.proofs.StandingLaws.{over_is}
 use Rattle.opc_engine.proofs.WindowLaws.{window_one}
 
 -- ---- what is printed of the mask of a run
-checked : (p : Prepared) (window : Rect) (mask printed : List Rect) (set : KernelSet) (answer : Answer) → set ≡ p.kernels → IsRunMask p mask
+checked : (p : Ready) (window : Rect) (mask printed : List Rect) (set : KernelSet) (answer : Answer) → set ≡ p.kernels → IsRunMask p mask
     → ((x y : ℤ) → cover printed x y ≡ printed_in set (cover mask) p.rules.site.threshold window x y) → IsStored p printed answer → IsChecked p window answer
 checked p window mask printed set answer same m pixels stored =
     let of_run : cover mask ≡ mask_of (at_offsets (subject_of p) m.offsets) = fun_ext (λ x. fun_ext (λ y. m.pixels x y)) in
@@ -52,13 +52,13 @@ checked p window mask printed set answer same m pixels stored =
       listed = subst (λ (q : PixelSet). IsFlawList (subject_of p) q answer (length printed)) is stored.listed;
     }
 
-pub checked_is : (p : Prepared) (window : Rect) (mask printed : List Rect) (set : KernelSet) (result : Result Answer NoMemory) → set ≡ p.kernels → IsRunMask p mask
+pub checked_is : (p : Ready) (window : Rect) (mask printed : List Rect) (set : KernelSet) (result : Result Answer NoMemory) → set ≡ p.kernels → IsRunMask p mask
     → ((x y : ℤ) → cover printed x y ≡ printed_in set (cover mask) p.rules.site.threshold window x y) → IfOk result (IsStored p printed) → IfOk result (IsChecked p window)
 checked_is p window mask printed set (Ok answer) same m pixels stored = checked p window mask printed set answer same m pixels stored
 checked_is p window mask printed set (Err e) same m pixels stored = tt
 
 -- the mask of a session that a run led to
-mask_after : (p : Prepared) (s : SessionValue) (lines : List ℕ) (made : ℕ) (mask : List Rect) → IsOver p s → HasRun p s lines made → ((x y : ℤ) → cover mask x y ≡ mask_of s x y)
+mask_after : (p : Ready) (s : SessionValue) (lines : List ℕ) (made : ℕ) (mask : List Rect) → IsOver p s → HasRun p s lines made → ((x y : ℤ) → cover mask x y ≡ mask_of s x y)
     → length mask ≤ 65536 → All (IsRectWithin 1048128) mask → IsRunMask p mask
 mask_after p s lines made mask over run pixels few within = record {
   offsets = s.offsets;
@@ -69,14 +69,14 @@ mask_after p s lines made mask over run pixels few within = record {
   within = within;
 }
 
-pub run_mask_is : (p : Prepared) (s : SessionValue) (lines : List ℕ) (made : ℕ) (result : Result (List Rect) NoMemory) → IsOver p s → HasRun p s lines made
+pub run_mask_is : (p : Ready) (s : SessionValue) (lines : List ℕ) (made : ℕ) (result : Result (List Rect) NoMemory) → IsOver p s → HasRun p s lines made
     → IfOk result (λ mask. (x y : ℤ) → cover mask x y ≡ mask_of s x y) → IfOk result (λ mask. length mask ≤ 65536) → IfOk result (All (IsRectWithin 1048128))
     → IfOk result (IsRunMask p)
 run_mask_is p s lines made (Ok mask) over run pixels few within = mask_after p s lines made mask over run pixels few within
 run_mask_is p s lines made (Err e) over run pixels few within = tt
 
 -- what is stored of printed pixels
-pub stored_is : (p : Prepared) (rects : List Rect) (found lent : List Flaw) (answer : Answer) (grid width : ℤ) (n : ℕ) → grid ≡ p.rules.pick.grid
+pub stored_is : (p : Ready) (rects : List Rect) (found lent : List Flaw) (answer : Answer) (grid width : ℤ) (n : ℕ) → grid ≡ p.rules.pick.grid
     → width ≡ p.rules.mask.width → IsCanonical (cover rects) rects → answer.mask ≡ mask_file p.head p.rules.out grid rects
     → ExpandsTo answer.mask p.rules.out.name p.rules.out.layer p.rules.out.datatype grid (cover rects) → AreFlaws (cover p.region) (cover rects) width found
     → lent ≡ found → n ≡ length rects → answer.table ≡ flaw_list n lent → answer.line ≡ counts_of_print n lent → IsStored p rects answer
@@ -99,7 +99,7 @@ module _ (layout kernels rules : List ℕ) where
   pub at_window : (s : Subject) (f : EngineFault) → Prepares layout kernels rules (Ok s) → WindowGives s (Err f) → (f ≡ engine.NoMemory) ⊎ PreparesCheck layout kernels rules (Err f)
   at_window s f accepted is = inr (inr (s, (accepted, inl (f, (is, refl)))))
 
-  pub check_is : (p : Prepared) (window : Rect) (answer : Answer) → Prepares layout kernels rules (Ok (subject_of p)) → WindowGives (subject_of p) (Ok window)
+  pub check_is : (p : Ready) (window : Rect) (answer : Answer) → Prepares layout kernels rules (Ok (subject_of p)) → WindowGives (subject_of p) (Ok window)
       → IsChecked p window answer → Checks layout kernels rules answer
   check_is p window answer accepted is c = record {
     subject = subject_of p;

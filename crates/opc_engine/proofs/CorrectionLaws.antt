@@ -33,7 +33,7 @@ use Rattle.opc_engine.specs.declared.limits.TheConstants.{MAX_RULES, MAX_KERNELS
 use Rattle.opc_engine.specs.Corrections.{Corrects, IsTabled, IsWritten, SimulateGives, Simulates}
 use Rattle.opc_engine.specs.ErrorTable.{last_line, round_lines, table_text}
 use Rattle.opc_engine.specs.LayoutTarget.{IsRead, IsUnread, StructuresGive}
-use Rattle.opc_engine.specs.Prepare.{CutGives, KernelsGive, LibraryGives, Prepares, PreparesBy, RulesGive, RulesOrFault, Subject, TargetKeeps}
+use Rattle.opc_engine.specs.Prepare.{CutGives, KernelsGive, LayoutPrepares, LibraryGives, Pattern, Prepares, PreparesBy, RulesGive, RulesOrFault, Subject, TargetKeeps}
 use Rattle.opc_engine.specs.Probe.{kernel_result}
 use Rattle.opc_engine.specs.Runs.{at_offsets, unmoved}
 use Rattle.opc_engine.specs.Stages.{Then}
@@ -99,13 +99,17 @@ read layout library (inl a) = absurd (not_fault a.0 library (sym a.1.1))
 read layout library (inr a) = let same : a.0 ≡ library = cc in subst (IsRead layout) same a.1.0
 
 -- ---- what is prepared is one
-pub prepares_by_one : (layout kernels : List ℕ) (r : Rules) → IsOne (PreparesBy layout kernels r)
-prepares_by_one layout kernels r =
-    then_one (KernelsGive kernels) _ (λ p q a b. a ∙ sym b) (λ set _.
+pub layout_one : (layout : List ℕ) (r : Rules) → IsOne (LayoutPrepares layout r)
+layout_one layout r =
     then_one _ _ (library_one layout) (λ library gives.
     then_one _ _ (λ p q. structures_one library.structures r.pick p q (distinct_offsets layout library (read layout library gives).described)) (λ pixels _.
     then_one _ _ (target_one r.mask pixels) (λ target keeps.
-    then_one _ _ (cut_one r.cut target r.mask (kept r.mask pixels target keeps)) (λ fragments _ p q a b. a ∙ sym b)))))
+    then_one _ _ (cut_one r.cut target r.mask (kept r.mask pixels target keeps)) (λ fragments _ p q a b. a ∙ sym b))))
+
+pub prepares_by_one : (layout kernels : List ℕ) (r : Rules) → IsOne (PreparesBy layout kernels r)
+prepares_by_one layout kernels r =
+    then_one (KernelsGive kernels) _ (λ p q a b. a ∙ sym b) (λ set _.
+    then_one _ _ (layout_one layout r) (λ pattern _ p q a b. a ∙ sym b))
 
 pub prepares_one : (layout kernels rules : List ℕ) → IsOne (Prepares layout kernels rules)
 prepares_one layout kernels rules =
@@ -159,7 +163,7 @@ rules_of_cut n bytes p more (inr a) =
     let P : List ℕ → Type 0 = λ b. RulesGive b p in
     subst P (take_all n bytes (omega arith)) (inr a)
 
-kernels_of_cut : (n : ℕ) (bytes : List ℕ) (p : Result KernelSet EngineFault) → MAX_KERNELS < n → KernelsGive (take n bytes) p → KernelsGive bytes p
+pub kernels_of_cut : (n : ℕ) (bytes : List ℕ) (p : Result KernelSet EngineFault) → MAX_KERNELS < n → KernelsGive (take n bytes) p → KernelsGive bytes p
 kernels_of_cut n bytes p more a = a ∙ kernels_cut (nat_lt MAX_KERNELS (length bytes)) n bytes more refl
 
 library_of_cut : (n : ℕ) (bytes : List ℕ) (p : Result StreamLibrary EngineFault) → MAX_LAYOUT < n → LibraryGives (take n bytes) p → LibraryGives bytes p
@@ -171,11 +175,15 @@ library_of_cut n bytes p more (inr a) =
     let P : List ℕ → Type 0 = λ b. IsRead b a.0 in
     inr (a.0, (subst P (take_all n bytes (omega arith)) a.1.0, a.1.1))
 
+pub layout_of_cut : (n : ℕ) (bytes : List ℕ) (r : Rules) → MAX_LAYOUT < n → (p : Result Pattern EngineFault) → LayoutPrepares (take n bytes) r p → LayoutPrepares bytes r p
+layout_of_cut n bytes r more =
+    then_map _ _ _ _ (λ p. library_of_cut n bytes p more) (λ library p a. a)
+
 module _ (layout kernels rules : List ℕ) (l k n : ℕ) (more_layout : MAX_LAYOUT < l) (more_kernels : MAX_KERNELS < k) (more_rules : MAX_RULES < n) where
   pub prepares_by_of_cut : (r : Rules) (p : Result Subject EngineFault) → PreparesBy (take l layout) (take k kernels) r p → PreparesBy layout kernels r p
   prepares_by_of_cut r =
       then_map _ _ _ _ (λ p. kernels_of_cut k kernels p more_kernels) (λ set.
-      then_map _ _ _ _ (λ p. library_of_cut l layout p more_layout) (λ library p a. a))
+      then_map _ _ _ _ (layout_of_cut l layout r more_layout) (λ pattern p a. a))
 
   pub prepares_of_cut : (p : Result Subject EngineFault) → Prepares (take l layout) (take k kernels) (take n rules) p → Prepares layout kernels rules p
   prepares_of_cut =

@@ -26,3 +26,4 @@ pub mod BarPrepareLaws
 pub mod BarTableLaws
 pub mod BarPrintLaws
 pub mod AssistLaws
+pub mod SetsLaws

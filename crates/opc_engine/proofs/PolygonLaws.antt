@@ -20,7 +20,7 @@ use Rattle.opc_session.specs.Sessions.{SessionValue, mask_of}
 use Rattle.opc_engine.specs.declared.answer.Answer.{Answer}
 use Rattle.opc_engine.specs.declared.fault.EngineFault.{EngineFault}
 use Rattle.opc_engine.specs.declared.limits.TheConstants.{MAX_KERNELS, MAX_LAYOUT, MAX_RULES}
-use Rattle.opc_engine.specs.declared.prepare.Prepared.{Prepared}
+use Rattle.opc_engine.specs.declared.ready.Ready.{Ready}
 use Rattle.opc_engine.specs.Corrections.{IsTabled}
 use Rattle.opc_engine.specs.ErrorTable.{last_line, round_lines, table_text}
 use Rattle.opc_engine.specs.PolygonMasks.{CorrectsToPolygons, IsDrawnFor, IsDrawnMask, IsDrawnRun, PolygonsGives}
@@ -43,7 +43,7 @@ no_touch s region pixels keeps x y touch =
     keeps M3 (Pixel (record { x = x; y = y })) (subst (λ (q : PixelSet). IsCornerTouch q x y) covered touch)
 
 -- what is told of a session, and the file of its polygons
-pub drawn_is : (p : Prepared) (s : SessionValue) (between : List ℕ) (region rects : List Rect) (grid : ℤ) (answer : Answer) → IsOver p s → IsCanonical (mask_of s) region
+pub drawn_is : (p : Ready) (s : SessionValue) (between : List ℕ) (region rects : List Rect) (grid : ℤ) (answer : Answer) → IsOver p s → IsCanonical (mask_of s) region
     → ((x y : ℤ) → cover region x y ≡ mask_of s x y) → rects ≡ region → answer.table ≡ table_text s between (length rects) → answer.line ≡ last_line s (length rects)
     → KeepsRules s.rules.mask s.fragments s.offsets → grid ≡ p.rules.pick.grid → IsPolygonFile (cover region) p.head p.rules.out grid answer.mask
     → ExpandsTo answer.mask p.rules.out.name p.rules.out.layer p.rules.out.datatype grid (cover region)
@@ -69,7 +69,7 @@ drawn_is p s between region rects grid answer over stacks pixels rects_are table
       };
     }
 
-after_run : (p : Prepared) (s : SessionValue) (lines between : List ℕ) (made : ℕ) (answer : Answer) → IsOver p s → HasRun p s lines made → between ≡ lines → IsDrawnFor p s between answer
+after_run : (p : Ready) (s : SessionValue) (lines between : List ℕ) (made : ℕ) (answer : Answer) → IsOver p s → HasRun p s lines made → between ≡ lines → IsDrawnFor p s between answer
     → IsDrawnRun p answer
 after_run p s lines between made answer over run is w = record {
   offsets = s.offsets;
@@ -81,7 +81,7 @@ after_run p s lines between made answer over run is w = record {
   drawn = w.drawn;
 }
 
-pub drawn_run_is : (p : Prepared) (s : SessionValue) (lines between : List ℕ) (made : ℕ) (result : Result Answer NoMemory) → IsOver p s → HasRun p s lines made → between ≡ lines
+pub drawn_run_is : (p : Ready) (s : SessionValue) (lines between : List ℕ) (made : ℕ) (result : Result Answer NoMemory) → IsOver p s → HasRun p s lines made → between ≡ lines
     → IfOk result (IsDrawnFor p s between) → IfOk result (IsDrawnRun p)
 drawn_run_is p s lines between made (Ok answer) over run is w = after_run p s lines between made answer over run is w
 drawn_run_is p s lines between made (Err e) over run is w = tt

@@ -1,4 +1,4 @@
--- What each stage of `prepare` says of the whole.
+-- What each stage of `ready_from` says of the whole.
 use Rattle.std.proofs.Common.{◌≡◌, ℕ, ◌≤◌, List, length, refl, sym, ap, ◌∙◌, subst, inl, inr}
 use Rattle.std.specs.Prelude.{◌⊎◌, Option, Some, None, Result, Ok, Err}
 use Rattle.opc_base.specs.Plane.{PixelSet}
@@ -17,7 +17,7 @@ use Rattle.opc_engine.specs.declared.fault.EngineFault.{EngineFault}
 use Rattle.opc_engine.specs.declared.fault.EngineFault.TheVariants as engine
 use Rattle.opc_engine.specs.declared.limits.TheConstants.{MAX_RULES}
 use Rattle.opc_engine.specs.LayoutTarget.{IsRead, IsUnread, StructuresGive}
-use Rattle.opc_engine.specs.Prepare.{CutGives, Prepares, PreparesBy, RulesGive, RulesOrFault, Subject, TargetKeeps}
+use Rattle.opc_engine.specs.Prepare.{CutGives, LayoutPrepares, Pattern, Prepares, PreparesBy, RulesGive, RulesOrFault, Subject, TargetKeeps}
 use Rattle.opc_engine.specs.Probe.{kernel_result}
 use Rattle.opc_engine.specs.Wrapped.{wrapped_cut, wrapped_rules}
 
@@ -47,7 +47,38 @@ pub cut_refused : (rules : CutRules) (target : PixelSet) (f : CutFault) → IsFa
 cut_refused rules target cut.NoMemory is = inl refl
 cut_refused rules target (cut.TooManyFragments count) is = inr (inl (count, (is, refl)))
 
--- ---- all of them
+-- ---- the stages of a layout
+
+abbrev LayoutEndsBy : List ℕ → Rules → EngineFault → Type 0
+LayoutEndsBy layout r f = (f ≡ engine.NoMemory) ⊎ LayoutPrepares layout r (Err f)
+
+module _ (layout : List ℕ) (r : Rules) where
+  pub at_library : (f : EngineFault) → (f ≡ engine.NoMemory) ⊎ IsUnread layout f → LayoutEndsBy layout r f
+  at_library f (inl none) = inl none
+  at_library f (inr is) = inr (inl (f, (inl (f, (is, refl)), refl)))
+
+  module _ (library : StreamLibrary) (read : IsRead layout library) where
+    pub at_target : (f : EngineFault) → (f ≡ engine.NoMemory) ⊎ StructuresGive library.structures r.pick (Err f) → LayoutEndsBy layout r f
+    at_target f (inl none) = inl none
+    at_target f (inr is) = inr (inr (library, (inr (library, (read, refl)), inl (f, (is, refl)))))
+
+    module _ (pixels : PixelSet) (placed : StructuresGive library.structures r.pick (Ok pixels)) where
+      pub at_mask_rules : (f : EngineFault) → (f ≡ engine.NoMemory) ⊎ TargetKeeps r.mask pixels (Err f) → LayoutEndsBy layout r f
+      at_mask_rules f (inl none) = inl none
+      at_mask_rules f (inr is) = inr (inr (library, (inr (library, (read, refl)), inr (pixels, (placed, inl (f, (is, refl)))))))
+
+      module _ (kept : TargetKeeps r.mask pixels (Ok pixels)) where
+        pub at_cut : (f : EngineFault) → (f ≡ engine.NoMemory) ⊎ CutGives r.cut pixels (Err f) → LayoutEndsBy layout r f
+        at_cut f (inl none) = inl none
+        at_cut f (inr is) =
+            inr (inr (library, (inr (library, (read, refl)), inr (pixels, (placed, inr (pixels, (kept, inl (f, (is, refl)))))))))
+
+        pub layout_accepted : (fragments : List Fragment) → CutGives r.cut pixels (Ok fragments)
+            → LayoutPrepares layout r (Ok (record { head = library.head; target = pixels; fragments = fragments }))
+        layout_accepted fragments is =
+            inr (library, (inr (library, (read, refl)), inr (pixels, (placed, inr (pixels, (kept, inr (fragments, (is, refl))))))))
+
+-- ---- the kernels come before the layout
 
 abbrev EndsBy : List ℕ → List ℕ → Rules → EngineFault → Type 0
 EndsBy layout kernels r f = (f ≡ engine.NoMemory) ⊎ PreparesBy layout kernels r (Err f)
@@ -58,55 +89,13 @@ module _ (layout kernels : List ℕ) (r : Rules) where
   at_kernels f (inr is) = inr (inl (f, (sym is, refl)))
 
   module _ (set : KernelSet) (set_is : kernel_result kernels ≡ Ok set) where
-    pub at_library : (f : EngineFault) → (f ≡ engine.NoMemory) ⊎ IsUnread layout f → EndsBy layout kernels r f
-    at_library f (inl none) = inl none
-    at_library f (inr is) = inr (inr (set, (sym set_is, inl (f, (inl (f, (is, refl)), refl)))))
+    pub at_layout : (f : EngineFault) → LayoutEndsBy layout r f → EndsBy layout kernels r f
+    at_layout f (inl none) = inl none
+    at_layout f (inr is) = inr (inr (set, (sym set_is, inl (f, (is, refl)))))
 
-    module _ (library : StreamLibrary) (read : IsRead layout library) where
-      pub at_target : (f : EngineFault) → (f ≡ engine.NoMemory) ⊎ StructuresGive library.structures r.pick (Err f) → EndsBy layout kernels r f
-      at_target f (inl none) = inl none
-      at_target f (inr is) = inr (inr (set, (sym set_is, inr (library, (inr (library, (read, refl)), inl (f, (is, refl)))))))
-
-      module _ (pixels : PixelSet) (placed : StructuresGive library.structures r.pick (Ok pixels)) where
-        pub at_mask_rules : (f : EngineFault) → (f ≡ engine.NoMemory) ⊎ TargetKeeps r.mask pixels (Err f) → EndsBy layout kernels r f
-        at_mask_rules f (inl none) = inl none
-        at_mask_rules f (inr is) =
-            inr (inr (set, (sym set_is, inr (library, (inr (library, (read, refl)), inr (pixels, (placed, inl (f, (is, refl)))))))))
-
-        module _ (kept : TargetKeeps r.mask pixels (Ok pixels)) where
-          pub at_cut : (f : EngineFault) → (f ≡ engine.NoMemory) ⊎ CutGives r.cut pixels (Err f) → EndsBy layout kernels r f
-          at_cut f (inl none) = inl none
-          at_cut f (inr is) =
-              inr (inr (
-                set,
-                (
-                  sym set_is,
-                  inr (
-                    library,
-                    (
-                      inr (library, (read, refl)),
-                      inr (pixels, (placed, inr (pixels, (kept, inl (f, (is, refl)))))),
-                    ),
-                  ),
-                ),
-              ))
-
-          pub accepted : (fragments : List Fragment) → CutGives r.cut pixels (Ok fragments)
-              → PreparesBy layout kernels r (Ok (record { head = library.head; target = pixels; fragments = fragments; set = set; rules = r }))
-          accepted fragments is =
-              inr (
-                set,
-                (
-                  sym set_is,
-                  inr (
-                    library,
-                    (
-                      inr (library, (read, refl)),
-                      inr (pixels, (placed, inr (pixels, (kept, inr (fragments, (is, refl)))))),
-                    ),
-                  ),
-                ),
-              )
+    pub accepted : (p : Pattern) → LayoutPrepares layout r (Ok p)
+        → PreparesBy layout kernels r (Ok (record { head = p.head; target = p.target; fragments = p.fragments; set = set; rules = r }))
+    accepted p is = inr (set, (sym set_is, inr (p, (is, refl))))
 
 -- ---- the rules come first
 

@@ -15,11 +15,9 @@ use Rattle.opc_engine.specs.declared.fault.EngineFault.TheVariants as fault
 use Rattle.opc_engine.specs.Checks.{CheckGives, PreparesCheck}
 use Rattle.opc_engine.specs.Corrections.{CorrectGives, IsTabled, IsWritten, MovesGives, PreparesMoves, SimulateGives}
 use Rattle.opc_engine.specs.ErrorTable.{fragment_lines, head_lines, last_line, move_lines, round_lines, table_text}
-use Rattle.opc_engine.specs.LayoutTarget.{StructuresGive}
-use Rattle.opc_engine.specs.Prepare.{CutGives, KernelsGive, LibraryGives, Prepares, RulesGive, RulesOrFault, Subject, TargetKeeps}
+use Rattle.opc_engine.specs.Prepare.{Prepares, PreparesBy, RulesGive, RulesOrFault, Subject}
 use Rattle.opc_engine.specs.Runs.{AreRounds, IsRun, at_offsets, unmoved}
 use Rattle.opc_engine.specs.Sharing.{AreSharedApart, DiffersInSharing}
-use Rattle.opc_engine.specs.Stages.{Then}
 use Rattle.opc_engine.proofs.CorrectionLaws.{rules_one}
 use Rattle.opc_engine.proofs.StageLaws.{not_fault, same_value}
 
@@ -84,31 +82,16 @@ abbrev with : Subject → Rules → Subject
 with s b = record { head = s.head; target = s.target; fragments = s.fragments; set = s.set; rules = shared s.rules b }
 
 -- ---- the stages after the rules
-abbrev After : List ℕ → List ℕ → Rules → Result Subject EngineFault → Type 0
-After layout kernels r =
-    Then (KernelsGive kernels) (λ set.
-    Then (LibraryGives layout) (λ library.
-    Then (StructuresGive library.structures r.pick) (λ pixels.
-    Then (TargetKeeps r.mask pixels) (λ target.
-    Then (CutGives r.cut target) (λ fragments result.
-    result ≡ Ok (record { head = library.head; target = target; fragments = fragments; set = set; rules = r }))))))
 
 -- what is given, with other tiles and workers
 abbrev result_with : Result Subject EngineFault → Rules → Result Subject EngineFault
 result_with (Ok s) b = Ok (with s b)
 result_with (Err f) b = Err f
 
-after_shared : (layout kernels : List ℕ) (r b : Rules) (p : Result Subject EngineFault) → After layout kernels r p → After layout kernels (shared r b) (result_with p b)
+after_shared : (layout kernels : List ℕ) (r b : Rules) (p : Result Subject EngineFault) → PreparesBy layout kernels r p → PreparesBy layout kernels (shared r b) (result_with p b)
 after_shared layout kernels r b p (inl x) = inl (x.0, (x.1.0, ap (λ q. result_with q b) x.1.1))
 after_shared layout kernels r b p (inr (set, (set_is, inl x))) = inr (set, (set_is, inl (x.0, (x.1.0, ap (λ q. result_with q b) x.1.1))))
-after_shared layout kernels r b p (inr (set, (set_is, inr (library, (read, inl x))))) =
-    inr (set, (set_is, inr (library, (read, inl (x.0, (x.1.0, ap (λ q. result_with q b) x.1.1))))))
-after_shared layout kernels r b p (inr (set, (set_is, inr (library, (read, inr (pixels, (placed, inl x))))))) =
-    inr (set, (set_is, inr (library, (read, inr (pixels, (placed, inl (x.0, (x.1.0, ap (λ q. result_with q b) x.1.1))))))))
-after_shared layout kernels r b p (inr (set, (set_is, inr (library, (read, inr (pixels, (placed, inr (target, (kept, inl x))))))))) =
-    inr (set, (set_is, inr (library, (read, inr (pixels, (placed, inr (target, (kept, inl (x.0, (x.1.0, ap (λ q. result_with q b) x.1.1))))))))))
-after_shared layout kernels r b p (inr (set, (set_is, inr (library, (read, inr (pixels, (placed, inr (target, (kept, inr (fragments, (cut, is))))))))))) =
-    inr (set, (set_is, inr (library, (read, inr (pixels, (placed, inr (target, (kept, inr (fragments, (cut, ap (λ q. result_with q b) is))))))))))
+after_shared layout kernels r b p (inr (set, (set_is, inr (pattern, (given, is))))) = inr (set, (set_is, inr (pattern, (given, ap (λ q. result_with q b) is))))
 
 -- ---- runs
 rounds_shared : (s : Subject) (b : Rules) (n : ℕ) (offsets : List ℤ) (rounds : List RoundSummary) → AreRounds s n offsets rounds → AreRounds (with s b) n offsets rounds
@@ -145,7 +128,7 @@ module _ (layout kernels a b : List ℕ) (apart : AreSharedApart a b) where
   prepares_shared p (inl x) = absurd (not_fault x.0 apart.one (rules_one a (Err x.0) (Ok apart.one) x.1.0 apart.first))
   prepares_shared p (inr (t, (gives, rest))) =
       let same = same_value t apart.one (rules_one a (Ok t) (Ok apart.one) gives apart.first) in
-      let there = after_shared layout kernels apart.one apart.other p (subst (λ (x : Rules). After layout kernels x p) same rest) in
+      let there = after_shared layout kernels apart.one apart.other p (subst (λ (x : Rules). PreparesBy layout kernels x p) same rest) in
       inr (shared apart.one apart.other, (gives_shared apart.one apart.other apart.differs b apart.second, there))
 
   pub simulate_shared : (result : Result Answer EngineFault) → SimulateGives layout kernels a result → SimulateGives layout kernels b result

@@ -10,7 +10,7 @@ use Rattle.opc_base.specs.declared.moves.Swept.{Swept}
 use Rattle.opc_session.specs.Moves.{AreMoved, answer_at, move_at, sweeps_made}
 use Rattle.opc_session.specs.Sessions.{MakesMove, MakesRound, SessionValue, error_at}
 use Rattle.opc_session.specs.Rounds.{Summarizes, TakeSteps}
-use Rattle.opc_engine.specs.declared.prepare.Prepared.{Prepared}
+use Rattle.opc_engine.specs.declared.ready.Ready.{Ready}
 use Rattle.opc_engine.specs.ErrorTable.{round_lines, texts_of}
 use Rattle.opc_engine.specs.Prepare.{Subject}
 use Rattle.opc_engine.specs.Ready.{subject_of}
@@ -18,7 +18,7 @@ use Rattle.opc_engine.specs.Runs.{AreRoundsBy, Counted, IsRound, IsRun, at_offse
 use Rattle.opc_engine.specs.Standing.{HasRounds, HasRun, IsOver}
 
 -- ---- a session by its offsets
-pub over_is : (p : Prepared) (s : SessionValue) → IsOver p s → s ≡ at_offsets (subject_of p) s.offsets
+pub over_is : (p : Ready) (s : SessionValue) → IsOver p s → s ≡ at_offsets (subject_of p) s.offsets
 over_is p s o = λ i. record { fragments = o.fragments i; set = o.set i; rules = o.rules i; offsets = s.offsets }
 
 -- ---- lines of rounds
@@ -34,7 +34,7 @@ rounds_by_count error s zero offsets rounds h = ap length h.1
 rounds_by_count error s (suc n) offsets rounds (before, earlier, last, h, unsettled, round, is) =
     ap length is ∙ length-append earlier (last ∷ []) ∙ ap (λ k. k + 1) (rounds_by_count error s n before earlier h) ∙ omega arith
 
-module _ (p : Prepared) where
+module _ (p : Ready) where
   -- a round of a session is a round of its subject
   round_of : (old new : SessionValue) (summary : RoundSummary) (before after : ℕ) → IsOver p old → MakesRound old new summary before after → IsRound (subject_of p) old.offsets new.offsets summary
   round_of old new summary before after over made =

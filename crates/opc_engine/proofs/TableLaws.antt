@@ -19,7 +19,7 @@ use Rattle.opc_engine.proofs.StandingLaws.{over_is}
 use Rattle.opc_engine.specs.Ready.{subject_of}
 use Rattle.opc_engine.specs.Runs.{at_offsets, is_settled, unmoved}
 use Rattle.opc_engine.specs.declared.answer.Answer.{Answer}
-use Rattle.opc_engine.specs.declared.prepare.Prepared.{Prepared}
+use Rattle.opc_engine.specs.declared.ready.Ready.{Ready}
 
 pub head_is : (s : SessionValue) (old out : List ℕ) (n k r : ℕ) (a b : ℤ) → old ≡ [] → n ≡ length s.fragments → k ≡ length s.set.kernels → r ≡ s.set.reach
     → a ≡ s.rules.site.samples → b ≡ s.rules.site.threshold → out ≡ old ++ (version_line ++ counts_line n k r a b) → out ≡ head_lines s
@@ -47,7 +47,7 @@ unfolding table_text
 table_is s between a b c d last rectangles head more fragments end is = is ∙ rw (fragments, more, head, end) refl
 
 -- what is told of a target of which no fragment has moved
-pub tabled_unmoved : (p : Prepared) (s : SessionValue) (set : KernelSet) (rects : List Rect) (answer : Answer) → set ≡ p.kernels
+pub tabled_unmoved : (p : Ready) (s : SessionValue) (set : KernelSet) (rects : List Rect) (answer : Answer) → set ≡ p.kernels
     → s ≡ record { fragments = p.fragments; set = set; rules = p.rules; offsets = replicate (length p.fragments) (pos 0) } → ((x y : ℤ) → mask_of s x y ≡ cover p.region x y)
     → rects ≡ p.region → IsCanonical (cover p.region) p.region → answer.table ≡ table_text s [] (length rects) → answer.line ≡ last_line s (length rects)
     → IsTabled (at_offsets (subject_of p) (unmoved (subject_of p))) [] answer p.region
@@ -62,7 +62,7 @@ tabled_unmoved p s set rects answer set_is is pixels rects_are stacks table line
     })
 
 -- what is told of a session, and its mask file
-pub written_is : (p : Prepared) (s : SessionValue) (between : List ℕ) (region rects : List Rect) (grid : ℤ) (answer : Answer) → IsOver p s → IsCanonical (mask_of s) region
+pub written_is : (p : Ready) (s : SessionValue) (between : List ℕ) (region rects : List Rect) (grid : ℤ) (answer : Answer) → IsOver p s → IsCanonical (mask_of s) region
     → ((x y : ℤ) → cover region x y ≡ mask_of s x y) → rects ≡ region → answer.table ≡ table_text s between (length rects) → answer.line ≡ last_line s (length rects)
     → KeepsRules s.rules.mask s.fragments s.offsets → grid ≡ p.rules.pick.grid → answer.mask ≡ mask_file p.head p.rules.out grid region
     → ExpandsTo answer.mask p.rules.out.name p.rules.out.layer p.rules.out.datatype grid (cover region) → IsWrittenFor p s between answer

@@ -9,7 +9,7 @@ use Rattle.opc_session.specs.Sessions.{SessionValue, mask_of}
 use Rattle.opc_engine.specs.declared.answer.Answer.{Answer}
 use Rattle.opc_engine.specs.declared.fault.EngineFault.{EngineFault}
 use Rattle.opc_engine.specs.declared.fault.EngineFault.TheVariants as engine
-use Rattle.opc_engine.specs.declared.prepare.Prepared.{Prepared}
+use Rattle.opc_engine.specs.declared.ready.Ready.{Ready}
 use Rattle.opc_engine.specs.ErrorTable.{last_line}
 use Rattle.opc_engine.specs.Prepare.{Prepares, Subject}
 use Rattle.opc_engine.specs.Ready.{subject_of}
@@ -33,7 +33,7 @@ pub last_is_long : (s : SessionValue) (rectangles : ℕ) (last : List ℕ) → l
 unfolding last_line
 last_is_long s rectangles last is = rw is (omega arith)
 
-pub tried_is : (n : ℕ) (p : Prepared) (before answer : Answer) (rounds fragments : ℕ) (c : IsCorrected p before) → rounds ≡ length c.rounds → fragments ≡ length p.fragments
+pub tried_is : (n : ℕ) (p : Ready) (before answer : Answer) (rounds fragments : ℕ) (c : IsCorrected p before) → rounds ≡ length c.rounds → fragments ≡ length p.fragments
     → answer.mask ≡ before.mask → answer.table ≡ before.table → answer.line ≡ trial_start n fragments rounds ++ drop 4 before.line → IsTried n p answer
 tried_is n p before answer rounds fragments c all count mask table line = record {
   before = before;
@@ -43,7 +43,7 @@ tried_is n p before answer rounds fragments c all count mask table line = record
   line = line_is n (at_offsets (subject_of p) c.offsets) fragments rounds (length c.rounds) (length c.rects) before.line answer.line c.tabled.line count all line;
 }
 
-pub tries_is : (n : ℕ) (p : Prepared) (answer : Answer) → Prepares (trial_layout n) trial_kernels trial_rules (Ok (subject_of p)) → IsTried n p answer → Tries n answer
+pub tries_is : (n : ℕ) (p : Ready) (answer : Answer) → Prepares (trial_layout n) trial_kernels trial_rules (Ok (subject_of p)) → IsTried n p answer → Tries n answer
 tries_is n p answer accepted t = record {
   corrected = t.before;
   corrects = record {

@@ -14,17 +14,17 @@ use Rattle.opc_engine.specs.Runs.{at_offsets}
 use Rattle.opc_engine.specs.Standing.{HasMoved, HasRun, IsOver}
 use Rattle.opc_engine.specs.Written.{IsCorrected, IsCorrection, IsMovedBy, IsTried, IsWrittenFor}
 use Rattle.opc_engine.specs.declared.answer.Answer.{Answer}
-use Rattle.opc_engine.specs.declared.prepare.Prepared.{Prepared}
+use Rattle.opc_engine.specs.declared.ready.Ready.{Ready}
 use Rattle.opc_engine.proofs.StandingLaws.{over_is}
 
 -- the table of a session over what is ready, by the session's offsets and with these lines
-tabled : (p : Prepared) (s : SessionValue) (between lines : List ℕ) (answer : Answer) (w : IsWrittenFor p s between answer) → IsOver p s → between ≡ lines
+tabled : (p : Ready) (s : SessionValue) (between lines : List ℕ) (answer : Answer) (w : IsWrittenFor p s between answer) → IsOver p s → between ≡ lines
     → IsTabled (at_offsets (subject_of p) s.offsets) lines answer w.rects
 tabled p s between lines answer w over is =
     subst (λ (l : List ℕ). IsTabled (at_offsets (subject_of p) s.offsets) l answer w.rects) is
     (subst (λ (t : SessionValue). IsTabled t between answer w.rects) (over_is p s over) w.tabled)
 
-corrected : (p : Prepared) (s : SessionValue) (lines between : List ℕ) (made : ℕ) (answer : Answer) → IsOver p s → HasRun p s lines made → between ≡ lines → IsWrittenFor p s between answer
+corrected : (p : Ready) (s : SessionValue) (lines between : List ℕ) (made : ℕ) (answer : Answer) → IsOver p s → HasRun p s lines made → between ≡ lines → IsWrittenFor p s between answer
     → IsCorrected p answer
 corrected p s lines between made answer over run is w = record {
   offsets = s.offsets;
@@ -35,12 +35,12 @@ corrected p s lines between made answer over run is w = record {
   written = w.written;
 }
 
-pub corrected_is : (p : Prepared) (s : SessionValue) (lines between : List ℕ) (made : ℕ) (answer : Answer) → IsOver p s → HasRun p s lines made → between ≡ lines
+pub corrected_is : (p : Ready) (s : SessionValue) (lines between : List ℕ) (made : ℕ) (answer : Answer) → IsOver p s → HasRun p s lines made → between ≡ lines
     → IsWrittenFor p s between answer → IsCorrection p (record { answer = answer; rounds = made })
 unfolding corrected
 corrected_is p s lines between made answer over run is w = record { corrected = corrected p s lines between made answer over run is w; rounds = run.count }
 
-pub corrects_is : (layout kernels rules : List ℕ) (p : Prepared) (answer : Answer) → Prepares layout kernels rules (Ok (subject_of p)) → IsCorrected p answer → Corrects layout kernels rules answer
+pub corrects_is : (layout kernels rules : List ℕ) (p : Ready) (answer : Answer) → Prepares layout kernels rules (Ok (subject_of p)) → IsCorrected p answer → Corrects layout kernels rules answer
 corrects_is layout kernels rules p answer accepted c = record {
   subject = subject_of p;
   accepted = accepted;
@@ -52,7 +52,7 @@ corrects_is layout kernels rules p answer accepted c = record {
   written = c.written;
 }
 
-moved : (p : Prepared) (moves : List Move) (s : SessionValue) (lines between : List ℕ) (answer : Answer) → IsOver p s → HasMoved p moves s lines → between ≡ lines
+moved : (p : Ready) (moves : List Move) (s : SessionValue) (lines between : List ℕ) (answer : Answer) → IsOver p s → HasMoved p moves s lines → between ≡ lines
     → IsWrittenFor p s between answer → IsMovedBy p moves answer
 moved p moves s lines between answer over run is w = record {
   offsets = s.offsets;
@@ -63,7 +63,7 @@ moved p moves s lines between answer over run is w = record {
   written = w.written;
 }
 
-pub moved_is : (p : Prepared) (moves : List Move) (s : SessionValue) (lines between : List ℕ) (result : Result Answer NoMemory) → IsOver p s → HasMoved p moves s lines
+pub moved_is : (p : Ready) (moves : List Move) (s : SessionValue) (lines between : List ℕ) (result : Result Answer NoMemory) → IsOver p s → HasMoved p moves s lines
     → between ≡ lines → IfOk result (IsWrittenFor p s between) → IfOk result (IsMovedBy p moves)
 moved_is p moves s lines between (Ok answer) over run is w = moved p moves s lines between answer over run is w
 moved_is p moves s lines between (Err e) over run is w = tt
@@ -75,7 +75,7 @@ module _ (layout kernels rules moves : List ℕ) where
   at_moves s n accepted count f (inl none) = inl none
   at_moves s n accepted count f (inr is) = inr (inr (s, (accepted, inl (f, (sym (ap (moves_result moves) (sym count) ∙ is), refl)))))
 
-  pub moves_are : (p : Prepared) (n : ℕ) (list lent : List Move) (answer : Answer) → Prepares layout kernels rules (Ok (subject_of p)) → n ≡ length p.fragments
+  pub moves_are : (p : Ready) (n : ℕ) (list lent : List Move) (answer : Answer) → Prepares layout kernels rules (Ok (subject_of p)) → n ≡ length p.fragments
       → moves_result moves n ≡ Ok list → lent ≡ list → IsMovedBy p lent answer → Moves layout kernels rules moves answer
   moves_are p n list lent answer accepted count is same made =
       let m = subst (λ (l : List Move). IsMovedBy p l answer) same made in

@@ -11,7 +11,7 @@ use Rattle.opc_session.specs.Sessions.{SessionValue}
 use Rattle.opc_engine.specs.declared.answer.Answer.{Answer}
 use Rattle.opc_engine.specs.declared.bar_prepare.BarPrepared.{BarPrepared}
 use Rattle.opc_engine.specs.declared.fault.EngineFault.{EngineFault}
-use Rattle.opc_engine.specs.declared.prepare.Prepared.{Prepared}
+use Rattle.opc_engine.specs.declared.ready.Ready.{Ready}
 use Rattle.opc_engine.specs.Assists.{IsBarTabled}
 use Rattle.opc_engine.specs.BarRuns.{ArePrinted, IsBarRun, own_error}
 use Rattle.opc_engine.specs.BarStages.{BarSubject, WholeGives, with_bars}
@@ -46,7 +46,7 @@ pub record CanAssist (g : BarPrepared) : Type 0 where
   pub own : (i : ℕ) → i < length g.whole.fragments → slice_index_or g.own.items i false ≡ is_own (cover g.target) (fragment_at g.whole.fragments i)
 
 -- it has the bars of what was ready, and the fragments with them
-pub record HasBars (given : Prepared) (bars : BarRules) (g : BarPrepared) : Type 0 where
+pub record HasBars (given : Ready) (bars : BarRules) (g : BarPrepared) : Type 0 where
   pub kept : AreBars given.rules.mask bars (cover given.region) g.bars.items
   pub whole : WholeGives (subject_of given) g.bars.items (Ok (bar_subject_of g))
 

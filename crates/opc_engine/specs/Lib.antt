@@ -15,6 +15,9 @@ pub mod Sharing
 pub mod Heads
 pub mod PolygonMasks
 pub mod Ready
+pub mod ReadyTarget
+pub mod PrepareSets
+pub mod Prepared
 pub mod Standing
 pub mod Written
 pub mod Windows

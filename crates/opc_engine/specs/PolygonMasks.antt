@@ -9,7 +9,7 @@ use Rattle.outline_model.specs.Rules.{KeepsRules}
 use Rattle.opc_session.specs.Sessions.{SessionValue, mask_of}
 use Rattle.opc_engine.specs.declared.answer.Answer.{Answer}
 use Rattle.opc_engine.specs.declared.fault.EngineFault.{EngineFault}
-use Rattle.opc_engine.specs.declared.prepare.Prepared.{Prepared}
+use Rattle.opc_engine.specs.declared.ready.Ready.{Ready}
 use Rattle.opc_engine.specs.Corrections.{IsTabled}
 use Rattle.opc_engine.specs.ErrorTable.{round_lines}
 use Rattle.opc_engine.specs.Prepare.{Prepares, Subject}
@@ -44,12 +44,12 @@ PolygonsGives layout kernels rules (Err refusal) = Prepares layout kernels rules
 -- ---- for what is ready
 
 -- the table with these lines between head and fragments, and the mask file, of a session
-pub record IsDrawnFor (p : Prepared) (s : SessionValue) (between : List ℕ) (answer : Answer) : Type 0 where
+pub record IsDrawnFor (p : Ready) (s : SessionValue) (between : List ℕ) (answer : Answer) : Type 0 where
   pub rects : List Rect
   pub tabled : IsTabled s between answer rects
   pub drawn : IsDrawnMask (subject_of p) s.offsets answer
 
-pub record IsDrawnRun (p : Prepared) (answer : Answer) : Type 0 where
+pub record IsDrawnRun (p : Ready) (answer : Answer) : Type 0 where
   pub offsets : List ℤ
   pub rounds : List RoundSummary
   pub run : IsRun (subject_of p) offsets rounds

@@ -23,6 +23,12 @@ use Rattle.opc_engine.specs.LayoutTarget.{IsRead, IsUnread, StructuresGive}
 use Rattle.opc_engine.specs.Probe.{kernel_result}
 use Rattle.opc_engine.specs.Stages.{Then}
 
+-- what a layout gives for rules: its head, the pixels of its target, and the fragments of the target's edges
+pub record Pattern : Type 0 where
+  pub head : Head
+  pub target : PixelSet
+  pub fragments : List Fragment
+
 -- what is corrected: the head of the layout, the pixels of its target, the fragments of the target's edges, the kernels
 -- and the rules
 pub record Subject : Type 0 where
@@ -68,17 +74,22 @@ CutGives rules target result =
 
 -- ---- all of them
 
--- What kernels and a layout give for these rules, or the first refusal: the kernels are judged before the layout; of the
--- layout first its records, then what the chosen shapes of its top structure cover, the rules of such a target, and its
--- fragments.
-abbrev pub PreparesBy : List ℕ → List ℕ → Rules → Result Subject EngineFault → Type 0
-PreparesBy layout kernels r =
-    Then (KernelsGive kernels) (λ set.
+-- What a layout gives for these rules, or the first refusal: of the layout first its records, then what the chosen shapes
+-- of its top structure cover, the rules of such a target, and its fragments.
+abbrev pub LayoutPrepares : List ℕ → Rules → Result Pattern EngineFault → Type 0
+LayoutPrepares layout r =
     Then (LibraryGives layout) (λ library.
     Then (StructuresGive library.structures r.pick) (λ pixels.
     Then (TargetKeeps r.mask pixels) (λ target.
     Then (CutGives r.cut target) (λ fragments result.
-    result ≡ Ok (record { head = library.head; target = target; fragments = fragments; set = set; rules = r }))))))
+    result ≡ Ok (record { head = library.head; target = target; fragments = fragments })))))
+
+-- What kernels and a layout give for these rules, or the first refusal: the kernels are judged before the layout.
+abbrev pub PreparesBy : List ℕ → List ℕ → Rules → Result Subject EngineFault → Type 0
+PreparesBy layout kernels r =
+    Then (KernelsGive kernels) (λ set.
+    Then (LayoutPrepares layout r) (λ p result.
+    result ≡ Ok (record { head = p.head; target = p.target; fragments = p.fragments; set = set; rules = r })))
 
 -- What the three files give for a correction, or the first refusal: the rules are judged first.
 abbrev pub Prepares : List ℕ → List ℕ → List ℕ → Result Subject EngineFault → Type 0

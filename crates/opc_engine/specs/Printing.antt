@@ -6,12 +6,12 @@ use Rattle.opc_base.specs.declared.plane.Rect.{Rect}
 use Rattle.opc_session.specs.Sessions.{mask_of}
 use Rattle.opc_engine.specs.Checks.{IsFlawList, IsPrintFile, printed_at}
 use Rattle.opc_engine.specs.declared.answer.Answer.{Answer}
-use Rattle.opc_engine.specs.declared.prepare.Prepared.{Prepared}
+use Rattle.opc_engine.specs.declared.ready.Ready.{Ready}
 use Rattle.opc_engine.specs.Ready.{subject_of}
 use Rattle.opc_engine.specs.Runs.{IsRun, at_offsets}
 
 -- few rectangles of the mask of the offsets that a run leads to
-pub record IsRunMask (p : Prepared) (mask : List Rect) : Type 0 where
+pub record IsRunMask (p : Ready) (mask : List Rect) : Type 0 where
   pub offsets : List ℤ
   pub rounds : List RoundSummary
   pub run : IsRun (subject_of p) offsets rounds
@@ -20,7 +20,7 @@ pub record IsRunMask (p : Prepared) (mask : List Rect) : Type 0 where
   pub within : All (IsRectWithin 1048128) mask
 
 -- the answer of a check with this window
-pub record IsChecked (p : Prepared) (window : Rect) (answer : Answer) : Type 0 where
+pub record IsChecked (p : Ready) (window : Rect) (answer : Answer) : Type 0 where
   pub offsets : List ℤ
   pub rounds : List RoundSummary
   pub run : IsRun (subject_of p) offsets rounds
@@ -29,6 +29,6 @@ pub record IsChecked (p : Prepared) (window : Rect) (answer : Answer) : Type 0 w
   pub listed : IsFlawList (subject_of p) (printed_at (subject_of p) offsets window) answer (length rects)
 
 -- the answer with these canonical rectangles
-pub record IsStored (p : Prepared) (rects : List Rect) (answer : Answer) : Type 0 where
+pub record IsStored (p : Ready) (rects : List Rect) (answer : Answer) : Type 0 where
   pub printed : IsPrintFile (subject_of p) (cover rects) answer rects
   pub listed : IsFlawList (subject_of p) (cover rects) answer (length rects)

@@ -8,7 +8,8 @@ ghost use Rattle.opc_engine.specs.Wrapped.{HidesNoMemory};
 
 use crate::EngineFault;
 use crate::bar_key::BarKey;
-use crate::prepare::{Prepared, fragments_of, prepare_by};
+use crate::ready::{Ready, ready_by};
+use crate::ready_target::fragments_of;
 use crate::rules::rules_of;
 use assist_bars::{BarRules, bars_of, own_fragments, with_bars};
 use opc_base::{MaskRules, Rect, Region};
@@ -21,7 +22,7 @@ pub struct BarPrepared {
     pub target: Region,
     pub bars: Vec<Rect>,
     pub own: Vec<bool>,
-    pub whole: Prepared,
+    pub whole: Ready,
 }
 
 /// What the files and the numbers of bars give for a correction, or the first refusal: of the rules, of the numbers, of
@@ -43,7 +44,7 @@ pub fn prepare_bars(
     let rules = rules_of(alloc, rules)?;
     let mask = rules.mask;
     judge_numbers(&mask, bars)?;
-    let given = prepare_by(alloc, layout, kernels, rules)?;
+    let given = ready_by(alloc, layout, kernels, rules)?;
     let whole = add_bars(alloc, given, bars)?;
     Ok(whole)
 }
@@ -80,7 +81,7 @@ fn bad_key(rules: &MaskRules, bars: &BarRules) -> Option<BarKey>
 }
 
 /// What is ready with the bars of a target, unless there are too many fragments then.
-fn add_bars(alloc: Global, given: Prepared, bars: &BarRules) -> Result<BarPrepared, EngineFault>
+fn add_bars(alloc: Global, given: Ready, bars: &BarRules) -> Result<BarPrepared, EngineFault>
     requires ready { CanOpen given }
     requires few { length given.region ≤ 65536 }
     requires numbers { AreBarRules bars.now }
@@ -90,7 +91,7 @@ fn add_bars(alloc: Global, given: Prepared, bars: &BarRules) -> Result<BarPrepar
     ensures refusal { IfErr result (λ fault. (fault ≡ EngineFault.NoMemory) ⊎ WholeFails (subject_of given) bars.now fault) }
     ensures memory { IfErr result (λ fault. ¬ HidesNoMemory fault) }
 {
-    let Prepared {
+    let Ready {
         head,
         region,
         fragments,
@@ -107,7 +108,7 @@ fn add_bars(alloc: Global, given: Prepared, bars: &BarRules) -> Result<BarPrepar
         target: region,
         bars,
         own,
-        whole: Prepared {
+        whole: Ready {
             head,
             region: both,
             fragments,

@@ -8,7 +8,7 @@ ghost use Rattle.opc_engine.specs.Standing.{IsOver};
 
 use crate::bar_prepare::BarPrepared;
 use crate::bar_run::{are_settled, find_totals};
-use crate::prepare::Prepared;
+use crate::ready::Ready;
 use crate::table::Table;
 use error_table::{put_counts, put_summary};
 use opc_base::{Bytes, NoMemory, Rect};
@@ -39,7 +39,7 @@ pub fn bar_table_of(
 }
 
 /// The version, and the line of the counts.
-fn head_of(alloc: Global, whole: &Prepared, session: &Session<'_>) -> Result<Bytes, NoMemory>
+fn head_of(alloc: Global, whole: &Ready, session: &Session<'_>) -> Result<Bytes, NoMemory>
     requires bounds { KeepsBounds whole.now.kernels }
     requires over { IsOver whole.now session.now }
     ensures { IfOk result (λ head. head ≡ bar_head session.now) }

@@ -7,7 +7,7 @@ ghost use Rattle.opc_engine.specs.Written.{IsCorrection};
 ghost use Rattle.opc_engine.specs.Wrapped.{HidesNoMemory};
 
 use crate::image::weights_of;
-use crate::prepare::{Prepared, prepare};
+use crate::ready::{Ready, ready_from};
 use crate::run::run;
 use crate::written::written;
 use crate::{Answer, EngineFault};
@@ -33,7 +33,7 @@ pub fn correct<R: Threads + Sync, W: Watch + Sync>(
         ⊎ Prepares layout.now kernels.now rules.now (Err fault)) }
     ensures memory { IfErr result (λ fault. ¬ HidesNoMemory fault) }
 {
-    let given = prepare(alloc, layout, kernels, rules)?;
+    let given = ready_from(alloc, layout, kernels, rules)?;
     let correction = corrected(rt, alloc, &given, watch)?;
     Ok(correction.answer)
 }
@@ -49,7 +49,7 @@ pub struct Correction {
 pub fn corrected<R: Threads + Sync, W: Watch + Sync>(
     rt: &R,
     alloc: Global,
-    given: &Prepared,
+    given: &Ready,
     watch: &W,
 ) -> Result<Correction, NoMemory>
     requires { CanOpen given.now }

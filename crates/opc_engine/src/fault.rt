@@ -7,6 +7,7 @@ use kernel_file::KernelFault;
 use opc_base::{Broken, NoMemory};
 use rect_union::UnionFault;
 use rule_file::{MoveFault, RuleFault};
+use std::alloc::AllocFailed;
 
 /// Why the bytes of the files call for no answer. A wrapped fault is never the lower want of memory.
 #[derive(Clone, Copy, Debug, PartialEq, Eq)]
@@ -46,6 +47,17 @@ impl From<NoMemory> for EngineFault {
     ghost from_gives = { λ _ e. e ≡ engine.NoMemory };
 
     fn from(_: NoMemory) -> Self {
+        EngineFault::NoMemory
+    }
+}
+
+impl<T: Drop> From<AllocFailed<T>> for EngineFault {
+    ghost use Rattle.std.specs.Prelude.{◌≡◌};
+    ghost use Rattle.opc_engine.specs.declared.fault.EngineFault.TheVariants as engine;
+
+    ghost from_gives = { λ _ e. e ≡ engine.NoMemory };
+
+    fn from(_: AllocFailed<T>) -> Self {
         EngineFault::NoMemory
     }
 }

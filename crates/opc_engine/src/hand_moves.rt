@@ -9,7 +9,7 @@ ghost use Rattle.opc_engine.specs.Written.{IsMovedBy};
 ghost use Rattle.opc_engine.specs.Wrapped.{HidesNoMemory};
 
 use crate::image::weights_of;
-use crate::prepare::{Prepared, prepare};
+use crate::ready::{Ready, ready_from};
 use crate::written::written;
 use crate::{Answer, EngineFault, MAX_MOVES, Which};
 use error_table::put_move;
@@ -38,7 +38,7 @@ pub fn moves<R: Threads + Sync, W: Watch + Sync>(
         ⊎ PreparesMoves layout.now kernels.now rules.now moves.now (Err fault)) }
     ensures memory { IfErr result (λ fault. ¬ HidesNoMemory fault) }
 {
-    let given = prepare(alloc, layout, kernels, rules)?;
+    let given = ready_from(alloc, layout, kernels, rules)?;
     let list = moves_of(alloc, moves, given.fragments.count())?;
     Ok(moved(rt, alloc, &given, &list)?)
 }
@@ -82,7 +82,7 @@ fn unnamed_line(moves: &[Move], count: u32) -> Option<u32>
 fn moved<R: Threads + Sync>(
     rt: &R,
     alloc: Global,
-    given: &Prepared,
+    given: &Ready,
     moves: &[Move],
 ) -> Result<Answer, NoMemory>
     requires ready { CanOpen given.now }
@@ -107,7 +107,7 @@ fn moved<R: Threads + Sync>(
 /// Makes each move in turn, and gives their lines. The steps are counted for no one.
 fn make_moves<L: Ledger>(
     alloc: Global,
-    given: &Prepared,
+    given: &Ready,
     session: &mut Session<'_>,
     moves: &[Move],
     blank: Blank,

@@ -5,6 +5,7 @@ ghost use Rattle.opc_engine.specs.Assists.{AssistGives};
 ghost use Rattle.opc_engine.specs.Checks.{CheckGives};
 ghost use Rattle.opc_engine.specs.Corrections.{CorrectGives, MovesGives, SimulateGives};
 ghost use Rattle.opc_engine.specs.PolygonMasks.{PolygonsGives};
+ghost use Rattle.opc_engine.specs.PrepareSets.{PreparesSets};
 ghost use Rattle.opc_engine.specs.Probe.{ProbeGives};
 ghost use Rattle.opc_engine.specs.Sharing.{AreSharedApart};
 ghost use Rattle.opc_engine.specs.Stages.{IsOne};
@@ -24,6 +25,7 @@ pub fn answers_are_one()
     ensures polygons { (layout kernels rules : List ℕ) → IsOne (PolygonsGives layout kernels rules) }
     ensures trial { (n : ℕ) → IsOne (TrialGives n) }
     ensures assist { (layout kernels rules : List ℕ) (bars : BarRules) → IsOne (AssistGives layout kernels rules bars) }
+    ensures prepare { (layout rules : List ℕ) (kernels : List (List ℕ)) → IsOne (PreparesSets layout kernels rules) }
 {}
 
 /// The side of tiles and the number of workers change no byte: where rule files differ in these two keys alone, whatever one

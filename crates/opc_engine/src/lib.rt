@@ -3,8 +3,9 @@
 //! `correct` reads a layout, kernels and rules, moves the fragments of the target's edges in rounds, and answers the mask
 //! file and the error table; `moves` moves them by hand, and `simulate` not at all. `specs/Corrections.antt` says what each
 //! answers: the record `Corrects` has the whole promise of `correct`, and the order of refusals is read from `Prepares` in
-//! `specs/Prepare.antt`, a line for each stage. `trial` corrects an input that it makes from a number. `laws` says that files
-//! call for one result at most, and that tiles and workers change none.
+//! `specs/Prepare.antt`, a line for each stage. `trial` corrects an input that it makes from a number. `prepare` gives what a
+//! correction under several conditions begins with, each condition with its kernel file. `laws` says that files call for one
+//! result at most, and that tiles and workers change none.
 //!
 //! `probe` reads a kernel file and a layout, and answers the intensity at one pixel of the target:
 //!
@@ -39,10 +40,13 @@ mod layout;
 mod limits;
 mod one_pixel;
 mod polygon_mask;
-mod prepare;
+mod prepared;
 mod printing;
+mod ready;
+mod ready_target;
 mod rules;
 mod run;
+mod sets;
 mod simulation;
 mod table;
 mod target;
@@ -64,7 +68,9 @@ pub use laws::{answers_are_one, sharing_changes_nothing};
 pub use limits::{MAX_KERNELS, MAX_LAYOUT, MAX_MOVES, MAX_RULES, MAX_WINDOW};
 pub use one_pixel::probe;
 pub use polygon_mask::polygons;
+pub use prepared::{Prepared, prepare};
 pub use printing::check;
+pub use sets::Sets;
 pub use simulation::simulate;
 pub use trial_input::{TrialFiles, trial_files};
 pub use trying::trial;

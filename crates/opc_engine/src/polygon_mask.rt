@@ -7,7 +7,7 @@ ghost use Rattle.opc_engine.specs.Standing.{IsOver};
 ghost use Rattle.opc_engine.specs.Wrapped.{HidesNoMemory};
 
 use crate::image::weights_of;
-use crate::prepare::{Prepared, prepare};
+use crate::ready::{Ready, ready_from};
 use crate::run::run;
 use crate::table::table_of;
 use crate::{Answer, EngineFault};
@@ -35,7 +35,7 @@ pub fn polygons<R: Threads + Sync, W: Watch + Sync>(
         ⊎ Prepares layout.now kernels.now rules.now (Err fault)) }
     ensures memory { IfErr result (λ fault. ¬ HidesNoMemory fault) }
 {
-    let given = prepare(alloc, layout, kernels, rules)?;
+    let given = ready_from(alloc, layout, kernels, rules)?;
     Ok(drawn_run(rt, alloc, &given, watch)?)
 }
 
@@ -43,7 +43,7 @@ pub fn polygons<R: Threads + Sync, W: Watch + Sync>(
 fn drawn_run<R: Threads + Sync, W: Watch + Sync>(
     rt: &R,
     alloc: Global,
-    given: &Prepared,
+    given: &Ready,
     watch: &W,
 ) -> Result<Answer, NoMemory>
     requires { CanOpen given.now }
@@ -68,7 +68,7 @@ fn drawn_run<R: Threads + Sync, W: Watch + Sync>(
 /// `between`.
 fn drawn(
     alloc: Global,
-    given: &Prepared,
+    given: &Ready,
     session: &Session<'_>,
     between: &[u8],
 ) -> Result<Answer, NoMemory>

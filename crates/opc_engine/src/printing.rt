@@ -10,7 +10,7 @@ ghost use Rattle.opc_engine.specs.Wrapped.{HidesNoMemory};
 
 use crate::flaw_list::list_of;
 use crate::image::weights_of;
-use crate::prepare::{Prepared, prepare};
+use crate::ready::{Ready, ready_from};
 use crate::run::run;
 use crate::window::window_of;
 use crate::{Answer, EngineFault};
@@ -39,7 +39,7 @@ pub fn check<R: Threads + Sync, W: Watch + Sync>(
         ⊎ PreparesCheck layout.now kernels.now rules.now (Err fault)) }
     ensures memory { IfErr result (λ fault. ¬ HidesNoMemory fault) }
 {
-    let given = prepare(alloc, layout, kernels, rules)?;
+    let given = ready_from(alloc, layout, kernels, rules)?;
     let window = window_of(&given)?;
     Ok(checked(rt, alloc, &given, window, watch)?)
 }
@@ -48,7 +48,7 @@ pub fn check<R: Threads + Sync, W: Watch + Sync>(
 fn checked<R: Threads + Sync, W: Watch + Sync>(
     rt: &R,
     alloc: Global,
-    given: &Prepared,
+    given: &Ready,
     window: Rect,
     watch: &W,
 ) -> Result<Answer, NoMemory>
@@ -80,7 +80,7 @@ fn checked<R: Threads + Sync, W: Watch + Sync>(
 fn run_mask<R: Threads + Sync, W: Watch + Sync>(
     rt: &R,
     alloc: Global,
-    given: &Prepared,
+    given: &Ready,
     tables: &Tables,
     weights: &[i64],
     watch: &W,
@@ -116,7 +116,7 @@ fn side_of(workers: u32) -> i32
 }
 
 /// The layout of the printed pixels, and the list of their flaws.
-fn answer_of(alloc: Global, given: &Prepared, printed: &Region) -> Result<Answer, NoMemory>
+fn answer_of(alloc: Global, given: &Ready, printed: &Region) -> Result<Answer, NoMemory>
     requires ready { CanOpen given.now }
     requires within { All (IsRectWithin 1048128) printed.now }
     ensures { IfOk result (IsStored given.now printed.now) }

@@ -4,7 +4,7 @@ ghost use Rattle.opc_engine.specs.Ready.{subject_of};
 ghost use Rattle.opc_engine.specs.Runs.{unmoved};
 ghost use Rattle.opc_engine.specs.Standing.{HasRun, IsOver};
 
-use crate::prepare::Prepared;
+use crate::ready::Ready;
 use crate::table::is_settled;
 use error_table::put_round;
 use opc_base::{Bytes, NoMemory, Steps, Watch};
@@ -25,7 +25,7 @@ pub struct Rounds {
 pub fn run<R: Threads + Sync, W: Watch + Sync, L: Ledger>(
     rt: &R,
     alloc: Global,
-    given: &Prepared,
+    given: &Ready,
     session: &mut Session<'_>,
     watch: &W,
     blank: Blank,

@@ -7,7 +7,7 @@ ghost use Rattle.opc_engine.specs.Runs.{at_offsets, unmoved};
 ghost use Rattle.opc_engine.specs.Wrapped.{HidesNoMemory};
 
 use crate::image::weights_of;
-use crate::prepare::{Prepared, prepare};
+use crate::ready::{Ready, ready_from};
 use crate::table::table_of;
 use crate::{Answer, EngineFault};
 use opc_base::{Bytes, NoMemory, Watch};
@@ -30,16 +30,12 @@ pub fn simulate<R: Threads + Sync, W: Watch + Sync>(
         ⊎ Prepares layout.now kernels.now rules.now (Err fault)) }
     ensures memory { IfErr result (λ fault. ¬ HidesNoMemory fault) }
 {
-    let given = prepare(alloc, layout, kernels, rules)?;
+    let given = ready_from(alloc, layout, kernels, rules)?;
     Ok(target_table(rt, alloc, &given)?)
 }
 
 /// The answer of `simulate` for what is ready.
-fn target_table<R: Threads + Sync>(
-    rt: &R,
-    alloc: Global,
-    given: &Prepared,
-) -> Result<Answer, NoMemory>
+fn target_table<R: Threads + Sync>(rt: &R, alloc: Global, given: &Ready) -> Result<Answer, NoMemory>
     requires { CanOpen given.now }
     ensures table { IfOk result (λ answer. IsTabled (at_offsets (subject_of given.now) (unmoved (subject_of given.now))) [] answer given.now.region) }
     ensures mask { IfOk result (λ answer. answer.mask ≡ []) }

@@ -8,7 +8,7 @@ ghost use Rattle.opc_engine.specs.Wrapped.{HidesNoMemory};
 ghost use Rattle.opc_engine.specs.Written.{IsTried};
 
 use crate::correction::corrected;
-use crate::prepare::{Prepared, prepare};
+use crate::ready::{Ready, ready_from};
 use crate::trial_input::trial_files;
 use crate::{Answer, EngineFault};
 use opc_base::{Bytes, NoMemory, Watch};
@@ -32,7 +32,7 @@ pub fn trial<R: Threads + Sync, W: Watch + Sync>(
     ensures memory { IfErr result (λ fault. ¬ HidesNoMemory fault) }
 {
     let files = trial_files(alloc, n)?;
-    let given = prepare(
+    let given = ready_from(
         alloc,
         files.layout.as_slice(),
         files.kernels.as_slice(),
@@ -46,7 +46,7 @@ fn tried<R: Threads + Sync, W: Watch + Sync>(
     rt: &R,
     alloc: Global,
     n: u32,
-    given: &Prepared,
+    given: &Ready,
     watch: &W,
 ) -> Result<Answer, NoMemory>
     requires { CanOpen given.now }

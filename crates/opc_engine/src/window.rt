@@ -8,7 +8,7 @@ ghost use Rattle.opc_engine.specs.Ready.{CanOpen, subject_of};
 ghost use Rattle.opc_engine.specs.Windows.{IsWindow, WindowGives, margin_of, window_round};
 ghost use Rattle.opc_engine.specs.Wrapped.{HidesNoMemory};
 
-use crate::prepare::Prepared;
+use crate::ready::Ready;
 use crate::{EngineFault, MAX_WINDOW};
 use opc_base::{Rect, Region};
 
@@ -16,7 +16,7 @@ use opc_base::{Rect, Region};
 const MASK_LIMIT: i32 = 1_048_128;
 
 /// The window of what is ready, unless it has too many pixels.
-pub fn window_of(given: &Prepared) -> Result<Rect, EngineFault>
+pub fn window_of(given: &Ready) -> Result<Rect, EngineFault>
     requires { CanOpen given.now }
     ensures gives { WindowGives (subject_of given.now) result }
     ensures within { IfOk result (IsRectWithin 1048128) }
@@ -35,7 +35,7 @@ pub fn window_of(given: &Prepared) -> Result<Rect, EngineFault>
 }
 
 /// How far a mask can lie outside its target, and be seen from there.
-fn margin_of(given: &Prepared) -> i32
+fn margin_of(given: &Ready) -> i32
     requires { CanOpen given.now }
     ensures is { result ≡ margin_of (subject_of given.now) }
     ensures low { pos 0 ≤ℤ result }

@@ -4,6 +4,7 @@ use Rattle.opc_engine.proofs.CorrectionLaws.{simulates_are_one}
 use Rattle.opc_engine.proofs.MaskLaws.{corrects_are_one, moves_are_one}
 use Rattle.opc_engine.proofs.PolygonLaws.{polygons_are_one}
 use Rattle.opc_engine.proofs.ProbeLaws.{probes_are_one}
+use Rattle.opc_engine.proofs.SetsLaws.{prepares_sets_one}
 use Rattle.opc_engine.proofs.TrialLaws.{trials_are_one}
 use Rattle.opc_engine.proofs.laws.answers_are_one.Goals as goal
 
@@ -30,3 +31,6 @@ returns-clause-polygons c = λ layout kernels rules. polygons_are_one layout ker
 
 pub returns-clause-assist : goal.returns-clause-assist
 returns-clause-assist c = λ layout kernels rules bars. assists_are_one layout kernels rules bars
+
+pub returns-clause-prepare : goal.returns-clause-prepare
+returns-clause-prepare c = λ layout rules kernels. prepares_sets_one layout kernels rules

@@ -1,81 +1,48 @@
-//! What is ready for a correction, once the files are judged.
-ghost use Rattle.std.specs.Prelude.{◌≡◌, ◌≤◌, ◌⊎◌, ℤ, Ok, Err, All, OnOk, IfOk, IfErr, length};
+//! The target of a layout with its fragments, once the layout is judged.
+ghost use Rattle.std.specs.Prelude.{◌≡◌, ◌⊎◌, ℤ, Ok, Err, All, OnOk, IfOk, IfErr};
 ghost use Rattle.opc_base.specs.Plane.{IsRectWithin, cover};
 ghost use Rattle.opc_base.specs.Runs.{IsCornerTouch};
 ghost use Rattle.mask_rules.specs.TargetRules.{KeepsTarget};
 ghost use Rattle.outline_model.specs.Fragmentation.{AreFragments};
-ghost use Rattle.opc_engine.specs.Prepare.{CutGives, Prepares, PreparesBy, TargetKeeps};
-ghost use Rattle.opc_engine.specs.Ready.{CanOpen, subject_of};
+ghost use Rattle.opc_engine.specs.Prepare.{CutGives, LayoutPrepares, TargetKeeps};
+ghost use Rattle.opc_engine.specs.ReadyTarget.{IsReadyFor, pattern_of};
 ghost use Rattle.opc_engine.specs.Wrapped.{HidesNoMemory};
 
 use crate::EngineFault;
-use crate::kernels::kernel_set_of;
 use crate::layout::read_layout;
-use crate::rules::rules_of;
 use crate::target::target_of;
 use fragment::{Fragments, cut};
 use gds_library::Library;
 use gds_records::Head;
 use mask_rules::check_target;
-use opc_base::{Bytes, CutRules, KernelSet, MaskRules, NoMemory, Region, Rules};
+use opc_base::{Bytes, CutRules, MaskRules, NoMemory, Region, Rules};
 use std::alloc::Global;
 
-/// The head of the layout, its target, the fragments of the target's edges, the kernels and the rules.
+/// The head of a layout, its target, and the fragments of the target's edges.
 #[derive(Drop)]
-pub struct Prepared {
+pub struct ReadyTarget {
     pub head: Head,
     pub region: Region,
     pub fragments: Fragments,
-    pub kernels: KernelSet,
-    pub rules: Rules,
 }
 
-/// What the files give for a correction, or the first refusal: of the rules, then of the kernels, then of the layout, of
-/// its placement, its number of corners, its target's mask rules and its number of fragments.
-pub fn prepare(
-    alloc: Global,
-    layout: &[u8],
-    kernels: &[u8],
-    rules: &[u8],
-) -> Result<Prepared, EngineFault>
-    ensures accepted { IfOk result (λ given. Prepares layout.now kernels.now rules.now (Ok (subject_of given))) }
-    ensures ready { IfOk result CanOpen }
-    ensures refusal { IfErr result (λ fault. (fault ≡ EngineFault.NoMemory)
-        ⊎ Prepares layout.now kernels.now rules.now (Err fault)) }
+/// What a layout gives for these rules, or the first refusal: of its records, of its placement, its number of corners, its
+/// target's mask rules and its number of fragments.
+pub fn target_from(alloc: Global, layout: &[u8], rules: &Rules) -> Result<ReadyTarget, EngineFault>
+    ensures accepted { IfOk result (λ given. LayoutPrepares layout.now rules.now (Ok (pattern_of given))) }
+    ensures ready { IfOk result (IsReadyFor rules.now) }
+    ensures refusal { IfErr result (λ fault. (fault ≡ EngineFault.NoMemory) ⊎ LayoutPrepares layout.now rules.now (Err fault)) }
     ensures memory { IfErr result (λ fault. ¬ HidesNoMemory fault) }
 {
-    let rules = rules_of(alloc, rules)?;
-    let given = prepare_by(alloc, layout, kernels, rules)?;
-    Ok(given)
-}
-
-/// What kernels and a layout give for these rules, or the first refusal.
-pub fn prepare_by(
-    alloc: Global,
-    layout: &[u8],
-    kernels: &[u8],
-    rules: Rules,
-) -> Result<Prepared, EngineFault>
-    ensures accepted { IfOk result (λ given. PreparesBy layout.now kernels.now rules (Ok (subject_of given))) }
-    ensures rules { IfOk result (λ given. given.rules ≡ rules) }
-    ensures ready { IfOk result CanOpen }
-    ensures few { IfOk result (λ given. length given.region ≤ 65536) }
-    ensures refusal { IfErr result (λ fault. (fault ≡ EngineFault.NoMemory)
-        ⊎ PreparesBy layout.now kernels.now rules (Err fault)) }
-    ensures memory { IfErr result (λ fault. ¬ HidesNoMemory fault) }
-{
-    let kernels = kernel_set_of(alloc, kernels)?;
     let library = read_layout(alloc, layout)?;
     let region = target_of(alloc, &library, &rules.pick)?;
     judge_target(alloc, &region, &rules.mask)?;
     let fragments = fragments_of(alloc, &region, &rules.cut)?;
     let head = head_of(alloc, &library)?;
-    Ok(Prepared {
+    Ok(ReadyTarget {
         head,
         region,
         fragments,
-        kernels,
-        rules,
     })
 }
 

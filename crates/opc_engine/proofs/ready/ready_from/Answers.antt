@@ -1,7 +1,7 @@
 use Rattle.std.proofs.lemmas.Result.{err_from_is_err_and}
 use Rattle.opc_engine.specs.Ready.{subject_of}
 use Rattle.opc_engine.proofs.PrepareLaws.{accepted_rules, after_rules}
-use Rattle.opc_engine.proofs.prepare.prepare.Goals as goal
+use Rattle.opc_engine.proofs.ready.ready_from.Goals as goal
 
 pub returns-in_err-given-clause-refusal : goal.returns-in_err-given-clause-refusal
 returns-in_err-given-clause-refusal c =
