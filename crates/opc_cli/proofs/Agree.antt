@@ -12,9 +12,10 @@ use Rattle.opc_engine.proofs.ProbeLaws.{probes_are_one}
 use Rattle.opc_engine.proofs.TrialLaws.{trials_are_one}
 use Rattle.opc_engine.proofs.StageLaws.{IsOne, not_fault, same_fault, same_value}
 use Rattle.opc_cli.specs.declared.command.Command.{Command}
-use Rattle.opc_cli.specs.declared.command.Command.TheVariants.{Probe, Simulate, Correct, Moves, Check, Polygons, Trial, Assist}
-use Rattle.opc_cli.specs.Command.{bar_rules, reads}
-use Rattle.opc_cli.specs.Plan.{Delivered, Delivery, Plan, no_command, missing, refused, answered, bytes_in, first_missing, both_stored, intensity_said, line_said, table_stored, IsPlanBy, IsVerdict, IsPlanWhere, IsPlanOf}
+use Rattle.opc_cli.specs.declared.command.Command.TheVariants.{Probe, Simulate, Correct, Moves, Check, Polygons, Trial, Assist, Window}
+use Rattle.opc_cli.proofs.ConditionLaws.{corrections_under_are_one}
+use Rattle.opc_cli.specs.Command.{bar_rules, kernel_files, names_of, reads}
+use Rattle.opc_cli.specs.Plan.{Delivered, Delivery, Plan, no_command, missing, refused, answered, bytes_in, first_missing, both_stored, intensity_said, line_said, table_stored, IsPlanBy, IsVerdict, IsPlanFor, IsPlanWhere, IsPlanOf}
 
 -- what is given at most once is delivered in one way
 delivered_one : {A : Type 0} (delivered : A → Delivery) (gives : Result A EngineFault → Type 0) → IsOne gives → IsOne (Delivered delivered gives)
@@ -40,6 +41,8 @@ verdicts_are_one (Check layout kernels rules printed list) files =
 verdicts_are_one (Trial n) files = delivered_one line_said _ (trials_are_one n)
 verdicts_are_one (Assist layout kernels rules mask table gap width end min) files =
     delivered_one (both_stored mask table) _ (assists_are_one (bytes_in files layout) (bytes_in files kernels) (bytes_in files rules) (bar_rules gap width end min))
+verdicts_are_one (Window layout rules mask table conditions) files =
+    delivered_one (both_stored mask table) _ (corrections_under_are_one (bytes_in files layout) (map (bytes_in files) (names_of (kernel_files conditions))) (bytes_in files rules) conditions)
 
 plans_by_one : (verdict : Result Delivery EngineFault → Type 0) → IsOne verdict → (p q : Plan) → IsPlanBy verdict p → IsPlanBy verdict q → p ≡ q
 plans_by_one verdict one (refused f) (refused g) a b = ap refused (same_fault Delivery f g (one (Err f) (Err g) a b))
@@ -59,3 +62,7 @@ plans_agree_where None command files p q a b = plans_by_one (IsVerdict command (
 
 pub plans_agree : (command : Command) (files : Files) (p q : Plan) → IsPlanOf command files p → IsPlanOf command files q → p ≡ q
 plans_agree command files p q a b = plans_agree_where (first_missing files (reads command)) command files p q a b
+
+pub plans_agree_for : (command : Option Command) (files : Files) (p q : Plan) → IsPlanFor command files p → IsPlanFor command files q → p ≡ q
+plans_agree_for (Some command) files p q a b = plans_agree command files p q a b
+plans_agree_for None files p q a b = a ∙ sym b

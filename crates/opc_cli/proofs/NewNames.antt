@@ -5,7 +5,7 @@ use Rattle.std.specs.Prelude.{Result, Ok, Err}
 use Rattle.std.specs.Str.{bytes_eq}
 use Rattle.opc_base.specs.Outside.{Files}
 use Rattle.opc_cli.specs.declared.command.Command.{Command}
-use Rattle.opc_cli.specs.declared.command.Command.TheVariants.{Probe, Simulate, Correct, Moves, Check, Polygons, Trial, Assist}
+use Rattle.opc_cli.specs.declared.command.Command.TheVariants.{Probe, Simulate, Correct, Moves, Check, Polygons, Trial, Assist, Window}
 use Rattle.opc_cli.specs.Command.{are_new, command_of, command_with, is_new, reads, with_new_names, writes}
 use Rattle.opc_cli.specs.NewNames.{AreNew, IsNew, StoresNewNames}
 use Rattle.opc_cli.specs.Plan.{Delivery, IsPlanOf, IsPlanWhere, IsVerdict, answered, bytes_in, first_missing}
@@ -40,6 +40,7 @@ stores_named (Moves layout kernels rules moves mask table) files delivery h = ap
 stores_named (Check layout kernels rules printed list) files delivery h = ap (λ d. map (λ s. s.0) d.stores) h.1.1
 stores_named (Trial n) files delivery h = ap (λ d. map (λ s. s.0) d.stores) h.1.1
 stores_named (Assist layout kernels rules mask table gap width end min) files delivery h = ap (λ d. map (λ s. s.0) d.stores) h.1.1
+stores_named (Window layout rules mask table conditions) files delivery h = ap (λ d. map (λ s. s.0) d.stores) h.1.1
 
 stores_named_where : (first : Option (List ℕ)) (command : Command) (files : Files) (delivery : Delivery) → IsPlanWhere first command files (answered delivery)
     → map (λ s. s.0) delivery.stores ≡ writes command

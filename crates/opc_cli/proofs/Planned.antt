@@ -20,10 +20,13 @@ use Rattle.opc_engine.proofs.CorrectionLaws.{simulate_of_cut}
 use Rattle.opc_engine.proofs.MaskLaws.{correct_of_cut, moves_of_cut}
 use Rattle.opc_engine.proofs.PolygonLaws.{polygons_of_cut}
 use Rattle.opc_engine.proofs.ProbeLaws.{result_of_cut}
+use Rattle.opc_cli.proofs.ConditionLaws.{correct_under_of_cut}
 use Rattle.opc_cli.specs.declared.answer.Answer.{Answer}
 use Rattle.opc_cli.specs.declared.command.Command.{Command}
-use Rattle.opc_cli.specs.declared.command.Command.TheVariants.{Probe, Simulate, Correct, Moves, Check, Polygons, Trial, Assist}
-use Rattle.opc_cli.specs.Command.{bar_rules, files_of, reads}
+use Rattle.opc_cli.specs.declared.command.Command.TheVariants.{Probe, Simulate, Correct, Moves, Check, Polygons, Trial, Assist, Window}
+use Rattle.opc_cli.specs.Command.{bar_rules, files_of, kernel_files, names_of, reads}
+use Rattle.opc_cli.specs.SeveralConditions.{CorrectUnderGives}
+use Rattle.opc_cli.specs.declared.conditions.ConditionWords.{ConditionWords}
 use Rattle.opc_cli.specs.Plan.{Delivered, Delivery, Plan, no_command, missing, refused, answered, IsPlanBy, IsPlanOf, IsPlanWhere, IsVerdict, both_stored, bytes_in, first_missing, intensity_said, table_stored}
 use Rattle.opc_cli.specs.Limit.{limit_of}
 use Rattle.opc_cli.specs.Sources.{AreLoaded, IsLoaded}
@@ -52,6 +55,11 @@ past_rules = lit< tt
 
 abbrev cut : Files → Which × List ℕ → List ℕ
 cut files file = take (limit_of file.0 + 1) (bytes_in files file.1)
+
+kernels_cut : (files : Files) (conditions : List ConditionWords)
+    → map (cut files) (kernel_files conditions) ≡ map (take (limit_of which.Kernels + 1)) (map (bytes_in files) (names_of (kernel_files conditions)))
+kernels_cut files [] = refl
+kernels_cut files (condition ∷ conditions) = ap (λ more. cut files (which.Kernels, condition.kernels) ∷ more) (kernels_cut files conditions)
 
 -- what is given for some bytes is given for others that give as much
 delivered_map : {A : Type 0} (delivered : A → Delivery) (gives gives' : Result A EngineFault → Type 0) → ((r : Result A EngineFault) → gives r → gives' r)
@@ -95,6 +103,15 @@ verdict_of_cut (Assist layout kernels rules mask table gap width end min) files 
     (AssistGives (bytes_in files layout) (bytes_in files kernels) (bytes_in files rules) (bar_rules gap width end min))
     (assist_of_cut (bytes_in files layout) (bytes_in files kernels) (bytes_in files rules) (bar_rules gap width end min) (limit_of which.Layout + 1) (limit_of which.Kernels + 1) (limit_of which.Rules + 1)
     past_layout past_kernels past_rules)
+verdict_of_cut (Window layout rules mask table conditions) files =
+    let kernels = map (bytes_in files) (names_of (kernel_files conditions)) in
+    delivered_map (both_stored mask table)
+    (CorrectUnderGives (cut files (which.Layout, layout)) (map (cut files) (kernel_files conditions)) (cut files (which.Rules, rules)) conditions)
+    (CorrectUnderGives (bytes_in files layout) kernels (bytes_in files rules) conditions)
+    (λ r h.
+    let P : List (List ℕ) → Type 0 = λ ks. CorrectUnderGives (cut files (which.Layout, layout)) ks (cut files (which.Rules, rules)) conditions r in
+    correct_under_of_cut (bytes_in files layout) kernels (bytes_in files rules) conditions (limit_of which.Layout + 1) (limit_of which.Kernels + 1) (limit_of which.Rules + 1)
+    past_layout past_kernels past_rules r (subst P (kernels_cut files conditions) h))
 
 -- ---- files that were loaded
 

@@ -1,5 +1,5 @@
 -- The words of a command line.
-use Rattle.std.specs.Prelude.{ℕ, ◌≤◌, Bool, true, not, ◌&&◌, nat_le, if◌then◌else◌, List, [], ◌∷◌, map, length, drop, codes, string_bytes, pos, negsuc, int_le, unsigned_abs, ℤ, Option, Some, None}
+use Rattle.std.specs.Prelude.{ℕ, ◌≤◌, Bool, true, not, ◌&&◌, nat_le, if◌then◌else◌, List, [], ◌∷◌, map, length, drop, All, codes, string_bytes, pos, negsuc, int_le, unsigned_abs, ℤ, Option, Some, None}
 use Rattle.std.specs.Str.{bytes_eq}
 use Rattle.std.specs.List.{list_all}
 use Rattle.std.specs.Char.{is_ascii_digit}
@@ -8,14 +8,16 @@ use Rattle.std.specs.Option.{option_and_then, option_map}
 use Rattle.std.specs.declared.string.String.{String}
 use Rattle.std.specs.declared.alloc.Global.{Global}
 use Rattle.opc_base.specs.declared.plane.Pix.{Pix}
+use Rattle.opc_base.specs.Ranges.{IsBetween}
 use Rattle.assist_bars.specs.Bars.{AreBarRules}
 use Rattle.assist_bars.specs.declared.bar_rules.BarRules.{BarRules}
 use Rattle.opc_engine.specs.AskRanges.{IsAsk}
 use Rattle.opc_engine.specs.declared.ask.Ask.{Ask}
 use Rattle.opc_engine.specs.declared.ask.Which.{Which}
 use Rattle.opc_engine.specs.declared.ask.Which.TheVariants as which
+use Rattle.opc_cli.specs.declared.conditions.ConditionWords.{ConditionWords}
 use Rattle.opc_cli.specs.declared.command.Command.{Command}
-use Rattle.opc_cli.specs.declared.command.Command.TheVariants.{Probe, Simulate, Correct, Moves, Check, Polygons, Trial, Assist}
+use Rattle.opc_cli.specs.declared.command.Command.TheVariants.{Probe, Simulate, Correct, Moves, Check, Polygons, Trial, Assist, Window}
 
 -- the bytes of each word
 abbrev pub texts : List (String Global) → List (List ℕ)
@@ -48,6 +50,14 @@ layer_from text = option_map unsigned_abs (number_from (pos 0) (pos 65535) text)
 -- the number of a trial
 abbrev pub count_from : List ℕ → Option ℕ
 count_from text = option_map unsigned_abs (number_from (pos 1) (pos 64) text)
+
+-- the threshold of a condition
+abbrev pub threshold_from : List ℕ → Option ℤ
+threshold_from text = number_from (pos 1) (pos 999999999999) text
+
+-- the weight of a condition
+abbrev pub weight_from : List ℕ → Option ℕ
+weight_from text = option_map unsigned_abs (number_from (pos 1) (pos 16) text)
 
 -- a coordinate, in pixels
 abbrev pub coordinate_from : List ℕ → Option ℤ
@@ -134,6 +144,33 @@ abbrev pub assist_of : List (List ℕ) → Option Command
 assist_of (layout ∷ kernels ∷ rules ∷ mask ∷ table ∷ words) = assist_with layout kernels rules mask table words
 assist_of _ = None
 
+abbrev pub condition_from : List ℕ → List ℕ → List ℕ → Option ConditionWords
+condition_from kernels threshold weight =
+    option_and_then (λ threshold. option_map (λ weight. record { kernels = kernels; threshold = threshold; weight = weight })
+    (weight_from weight)) (threshold_from threshold)
+
+-- any number of conditions: KERNELS THRESHOLD WEIGHT each
+abbrev pub conditions_from : List (List ℕ) → Option (List ConditionWords)
+conditions_from [] = Some []
+conditions_from (kernels ∷ threshold ∷ weight ∷ words) =
+    option_and_then (λ first. option_map (λ rest. first ∷ rest) (conditions_from words)) (condition_from kernels threshold weight)
+conditions_from _ = None
+
+-- two to four of them
+abbrev pub few_enough : List ConditionWords → Option (List ConditionWords)
+few_enough conditions = if nat_le 2 (length conditions) && nat_le (length conditions) 4 then Some conditions else None
+
+abbrev pub conditions_of : List (List ℕ) → Option (List ConditionWords)
+conditions_of words = option_and_then few_enough (conditions_from words)
+
+abbrev pub window_with : List ℕ → List ℕ → List ℕ → List ℕ → List (List ℕ) → Option Command
+window_with layout rules mask table words = option_map (λ conditions. Window layout rules mask table conditions) (conditions_of words)
+
+-- `window` LAYOUT RULES MASK TABLE, and then two to four times KERNELS THRESHOLD WEIGHT
+abbrev pub window_of : List (List ℕ) → Option Command
+window_of (layout ∷ rules ∷ mask ∷ table ∷ words) = window_with layout rules mask table words
+window_of _ = None
+
 -- what the words after a command's name ask for
 abbrev pub command_with : List ℕ → List (List ℕ) → Option Command
 command_with name words =
@@ -144,9 +181,14 @@ command_with name words =
     else (if bytes_eq name (codes "check") then check_of words
     else (if bytes_eq name (codes "polygons") then polygons_of words
     else (if bytes_eq name (codes "trial") then trial_of words
-    else (if bytes_eq name (codes "assist") then assist_of words else None)))))))
+    else (if bytes_eq name (codes "assist") then assist_of words
+    else (if bytes_eq name (codes "window") then window_of words else None))))))))
 
 -- ---- the files of a command
+
+-- the kernel files of conditions, in their order
+abbrev pub kernel_files : List ConditionWords → List (Which × List ℕ)
+kernel_files conditions = map (λ condition. (which.Kernels, condition.kernels)) conditions
 
 -- the files that a command reads, of which kind and under which name, in the order of its loads
 abbrev pub files_of : Command → List (Which × List ℕ)
@@ -159,10 +201,15 @@ files_of (Moves layout kernels rules moves mask table) =
 files_of (Check layout kernels rules printed list) = (which.Layout, layout) ∷ (which.Kernels, kernels) ∷ (which.Rules, rules) ∷ []
 files_of (Trial n) = []
 files_of (Assist layout kernels rules mask table gap width end min) = (which.Layout, layout) ∷ (which.Kernels, kernels) ∷ (which.Rules, rules) ∷ []
+files_of (Window layout rules mask table conditions) = (which.Layout, layout) ∷ (which.Rules, rules) ∷ kernel_files conditions
+
+-- the names of files
+abbrev pub names_of : List (Which × List ℕ) → List (List ℕ)
+names_of files = map (λ file. file.1) files
 
 -- the names that a command reads, in the order of its loads
 abbrev pub reads : Command → List (List ℕ)
-reads command = map (λ file. file.1) (files_of command)
+reads command = names_of (files_of command)
 
 -- the names that a command stores, in the order of its stores
 abbrev pub writes : Command → List (List ℕ)
@@ -174,6 +221,7 @@ writes (Moves layout kernels rules moves mask table) = mask ∷ table ∷ []
 writes (Check layout kernels rules printed list) = printed ∷ list ∷ []
 writes (Trial n) = []
 writes (Assist layout kernels rules mask table gap width end min) = mask ∷ table ∷ []
+writes (Window layout rules mask table conditions) = mask ∷ table ∷ []
 
 -- ---- what the words ask for
 
@@ -197,6 +245,18 @@ abbrev pub command_of : List (List ℕ) → Option Command
 command_of (name ∷ words) = with_new_names (command_with name words)
 command_of [] = None
 
+-- a condition has a threshold and a weight within their ranges
+pub record IsConditionOfWords (condition : ConditionWords) : Type 0 where
+  pub threshold : IsBetween (pos 1) (pos 999999999999) condition.threshold
+  pub weighs : 1 ≤ condition.weight
+  pub light : condition.weight ≤ 16
+
+-- two to four of them
+pub record AreConditionsOfWords (conditions : List ConditionWords) : Type 0 where
+  pub some : 2 ≤ length conditions
+  pub few : length conditions ≤ 4
+  pub each : All IsConditionOfWords conditions
+
 -- the command keeps the conditions of the call that it makes of the engine
 abbrev pub MeetsConditions : Command → Type 0
 MeetsConditions (Probe layout kernels ask) = IsAsk ask
@@ -207,3 +267,4 @@ MeetsConditions (Moves layout kernels rules moves mask table) = Unit {0}
 MeetsConditions (Check layout kernels rules printed list) = Unit {0}
 MeetsConditions (Trial n) = (1 ≤ n) × (n ≤ 64)
 MeetsConditions (Assist layout kernels rules mask table gap width end min) = AreBarRules (bar_rules gap width end min)
+MeetsConditions (Window layout rules mask table conditions) = AreConditionsOfWords conditions

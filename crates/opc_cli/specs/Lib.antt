@@ -1,4 +1,5 @@
 pub mod Command
+pub mod SeveralConditions
 pub mod Limit
 pub mod Plan
 pub mod Fault

@@ -12,8 +12,9 @@ use Rattle.opc_engine.specs.Trial.{TrialGives}
 use Rattle.opc_engine.specs.declared.answer.Answer.{Answer}
 use Rattle.opc_engine.specs.declared.fault.EngineFault.{EngineFault}
 use Rattle.opc_cli.specs.Command.{bar_rules, command_of, reads}
+use Rattle.opc_cli.specs.SeveralConditions.{CorrectUnderGives}
 use Rattle.opc_cli.specs.declared.command.Command.{Command}
-use Rattle.opc_cli.specs.declared.command.Command.TheVariants.{Probe, Simulate, Correct, Moves, Check, Polygons, Trial, Assist}
+use Rattle.opc_cli.specs.declared.command.Command.TheVariants.{Probe, Simulate, Correct, Moves, Check, Polygons, Trial, Assist, Window}
 
 -- what is stored under which name, in order, and what is said then
 pub record Delivery : Type 0 where
@@ -39,7 +40,7 @@ intensity_said n = record { stores = []; line = intensity_line n }
 abbrev pub table_stored : List ℕ → Answer → Delivery
 table_stored table answer = record { stores = (table, answer.table) ∷ []; line = answer.line }
 
--- `correct`, `polygons`, `moves` and `assist` store the mask file before the table, and `check` the printed image before the list; they
+-- `correct`, `polygons`, `moves`, `assist` and `window` store the mask file before the table, and `check` the printed image before the list; they
 -- say the last line of the second
 abbrev pub both_stored : List ℕ → List ℕ → Answer → Delivery
 both_stored mask table answer = record { stores = (mask, answer.mask) ∷ (table, answer.table) ∷ []; line = answer.line }
@@ -65,6 +66,8 @@ IsVerdict (Check _ _ _ printed list) (layout ∷ kernels ∷ rules ∷ []) = Del
 IsVerdict (Trial n) [] = Delivered line_said (TrialGives n)
 IsVerdict (Assist _ _ _ mask table gap width end min) (layout ∷ kernels ∷ rules ∷ []) =
     Delivered (both_stored mask table) (AssistGives layout kernels rules (bar_rules gap width end min))
+IsVerdict (Window _ _ mask table conditions) (layout ∷ rules ∷ kernels) =
+    Delivered (both_stored mask table) (CorrectUnderGives layout kernels rules conditions)
 IsVerdict _ _ = λ _. ⊥
 
 -- the plan of a verdict

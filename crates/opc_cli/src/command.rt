@@ -2,9 +2,10 @@
 ghost use Rattle.std.specs.Prelude.{◌≡◌};
 ghost use Rattle.opc_cli.specs.declared.command.WordFault.TheVariants as fault;
 
+use crate::conditions::ConditionList;
 use opc_base::{NoMemory, Text};
 use opc_engine::Ask;
-use std::alloc::AllocError;
+use std::alloc::{AllocError, AllocFailed};
 
 /// What the program is to do. File names are as in the words.
 #[derive(Drop)]
@@ -67,6 +68,14 @@ pub enum Command {
         end: i32,
         min: i32,
     },
+    /// Stores the mask file and the table of a correction for two to four conditions at once.
+    Window {
+        layout: Text,
+        rules: Text,
+        mask: Text,
+        table: Text,
+        conditions: ConditionList,
+    },
     /// Says what a correction of a made input came to; `n` is 1 to 64.
     Trial {
         n: u32,
@@ -92,6 +101,14 @@ impl From<AllocError> for WordFault {
     ghost from_gives = { λ _ e. e ≡ fault.NoMemory };
 
     fn from(_: AllocError) -> Self {
+        WordFault::NoMemory
+    }
+}
+
+impl<T: Drop> From<AllocFailed<T>> for WordFault {
+    ghost from_gives = { λ _ e. e ≡ fault.NoMemory };
+
+    fn from(_: AllocFailed<T>) -> Self {
         WordFault::NoMemory
     }
 }

@@ -1,9 +1,11 @@
 //! The files that a command reads.
-ghost use Rattle.std.specs.Prelude.{◌≡◌, [], ◌∷◌, IfOk, IfErr};
+ghost use Rattle.std.specs.Prelude.{◌≡◌, [], ◌∷◌, ◌++◌, ℕ, List, IfOk, IfErr, OnOk};
 ghost use Rattle.opc_base.specs.Outside.{Loads};
+ghost use Rattle.opc_cli.specs.Command.{kernel_files, names_of};
 ghost use Rattle.opc_cli.specs.Sources.{AreLoaded, IsLoaded};
 ghost use Rattle.opc_cli.specs.Steps.{LoadStops, LoadsStop};
 
+use crate::conditions::ConditionWords;
 use crate::limits::limit_of;
 use crate::stop::Stop;
 use opc_base::{Bytes, Host, LoadFault, Text};
@@ -55,4 +57,23 @@ pub fn load_sources<'a, H: Host>(
         kernels: load_named(alloc, host, kernels, Which::Kernels)?,
         rules: load_named(alloc, host, rules, Which::Rules)?,
     })
+}
+
+/// Loads the kernel files of these conditions in their order, each time that one is named, behind those of a list.
+pub fn load_kernels<'a, H: Host>(
+    alloc: Global,
+    host: &mut H,
+    conditions: &'a [ConditionWords],
+    kernels: &mut Vec<Bytes>,
+) -> Result<(), Stop<'a>>
+    ensures loaded { OnOk result ((more : List (List ℕ)) × (kernels.new.items ≡ kernels.old.items ++ more)
+        × AreLoaded (H.outside host.old).files (kernel_files conditions.now) more) }
+    ensures stop { IfErr result (LoadsStop (names_of (kernel_files conditions.now)) (H.outside host.old) (H.outside host.new)) }
+    ensures rest { Loads (H.outside host.old) (H.outside host.new) }
+{
+    let [first, rest @ ..] = conditions else {
+        return Ok(());
+    };
+    kernels.push(load_named(alloc, host, &first.kernels, Which::Kernels)?)?;
+    load_kernels(alloc, host, rest, kernels)
 }

@@ -16,6 +16,7 @@ use crate::probe::probe;
 use crate::simulate::simulate;
 use crate::stop::Stop;
 use crate::trial::trial;
+use crate::window::window;
 use assist_bars::BarRules;
 use opc_base::{Host, Watch};
 use std::alloc::Global;
@@ -100,6 +101,15 @@ fn answer_to<'a, R: Threads + Sync, H: Host, W: Watch + Sync>(
                 rt, alloc, host, layout, kernels, rules, mask, table, &bars, watch,
             )
         }
+        Command::Window {
+            layout,
+            rules,
+            mask,
+            table,
+            conditions,
+        } => window(
+            rt, alloc, host, layout, rules, mask, table, conditions, watch,
+        ),
         Command::Trial { n } => trial(rt, alloc, host, *n, watch),
     }
 }

@@ -1,9 +1,10 @@
 //! The words of a command line.
 ghost use Rattle.std.specs.Prelude.{◌≡◌, Some, None, [], ◌∷◌, IfOk, IsErrOf};
 ghost use Rattle.opc_engine.specs.AskRanges.{IsAsk};
-ghost use Rattle.opc_cli.specs.Command.{texts, is_top, ask_from, ask_of, probe_with, probe_of, simulate_of, correct_of, moves_of, check_of, command_with, command_of, MeetsConditions, polygons_of, trial_of, assist_with, assist_of};
+ghost use Rattle.opc_cli.specs.Command.{texts, is_top, ask_from, ask_of, probe_with, probe_of, simulate_of, correct_of, moves_of, check_of, command_with, command_of, MeetsConditions, polygons_of, trial_of, assist_with, assist_of, window_with, window_of};
 
 use crate::command::{Command, WordFault};
+use crate::condition_words::conditions_of;
 use crate::names::has_new_names;
 use crate::numbers::{bars_of, count_from, layer_from, pixel_from};
 use opc_base::{Name, NoMemory, Text};
@@ -41,6 +42,7 @@ fn command_with(alloc: Global, name: &str, words: &[String]) -> Result<Command, 
         "check" => check_of(alloc, words),
         "trial" => trial_of(words),
         "assist" => assist_of(alloc, words),
+        "window" => window_of(alloc, words),
         _ => Err(WordFault::Words),
     }
 }
@@ -240,6 +242,39 @@ fn assist_with(
         width: bars.width,
         end: bars.end,
         min: bars.min,
+    })
+}
+
+fn window_of(alloc: Global, words: &[String]) -> Result<Command, WordFault>
+    ensures command { IfOk result (λ command. window_of (texts words.now) ≡ Some command) }
+    ensures words { IsErrOf result WordFault.Words → window_of (texts words.now) ≡ None }
+    ensures conditions { IfOk result MeetsConditions }
+{
+    let [layout, rules, mask, table, words @ ..] = words else {
+        return Err(WordFault::Words);
+    };
+    window_with(alloc, layout, rules, mask, table, words)
+}
+
+fn window_with(
+    alloc: Global,
+    layout: &str,
+    rules: &str,
+    mask: &str,
+    table: &str,
+    words: &[String],
+) -> Result<Command, WordFault>
+    ensures command { IfOk result (λ command. window_with layout.now rules.now mask.now table.now (texts words.now) ≡ Some command) }
+    ensures words { IsErrOf result WordFault.Words → window_with layout.now rules.now mask.now table.now (texts words.now) ≡ None }
+    ensures conditions { IfOk result MeetsConditions }
+{
+    let conditions = conditions_of(alloc, words)?;
+    Ok(Command::Window {
+        layout: text_of(alloc, layout)?,
+        rules: text_of(alloc, rules)?,
+        mask: text_of(alloc, mask)?,
+        table: text_of(alloc, table)?,
+        conditions,
     })
 }
 
