@@ -124,41 +124,4 @@ impl<'a, R: Files + Print> Host for FileHost<'a, R> {
 }
 
 #[cfg(test)]
-mod tests {
-    use super::FileHost;
-    use opc_base::{Bytes, Host, HostFault, LoadFault};
-    use std::{env, fs, io};
-
-    fn gives(loaded: &Result<Bytes, LoadFault>, wanted: &[u8]) -> bool {
-        match loaded {
-            Ok(bytes) => bytes.as_slice() == wanted,
-            Err(_) => false,
-        }
-    }
-
-    #[test]
-    fn files_of_a_real_folder(rt: HostRuntime) -> io::Result<()> {
-        let alloc = rt.alloc();
-        let folder = env::temp_dir(&rt)?.join(alloc, "opc_file_host")?;
-        fs::create_dir_all(&rt, folder.as_str())?;
-        let file = folder.join(alloc, "file")?;
-        let absent = folder.join(alloc, "absent/file")?;
-        let (file, absent) = (file.as_str(), absent.as_str());
-        let mut host = FileHost::new(&rt);
-        assert_eq!(rt; host.store(alloc, file, b"a longer text"), Ok(()));
-        assert_eq!(rt; host.store(alloc, file, b"0123456789"), Ok(()));
-        let front = host.load(alloc, file, 3);
-        assert!(rt; gives(&front, b"0123"));
-        let whole = host.load(alloc, file, 10);
-        assert!(rt; gives(&whole, b"0123456789"));
-        let missing = host.load(alloc, absent, 10);
-        assert!(rt; matches!(missing, Err(LoadFault::Failed)));
-        let nowhere = host.store(alloc, absent, b"text");
-        assert_eq!(rt; nowhere, Err(HostFault::Failed));
-        assert_eq!(rt;
-            (host.load_faults, host.store_faults, host.say_faults),
-            (1, 1, 0)
-        );
-        fs::remove_dir_all(&rt, folder.as_str())
-    }
-}
+mod tests;

@@ -1,16 +1,13 @@
-//! Targets with scatter bars: masks and tables of `assist`, with numbers that were found by hand, its refusals, and calls of
-//! the host that fail.
+//! Targets with scatter bars: masks and tables of `assist`, with numbers that were found by hand, and its refusals.
 
 use crate::files::{ONES, SQUARE, Sides, kernel_of, layout_of, mask_of};
-use crate::hosts::{none, one};
-use crate::outputs::{BEFORE, Found, Left, OLD, check_left, check_refused};
+use crate::hosts::none;
+use crate::outputs::{ASSIST, Found, Left, check_left, check_refused};
 use crate::rules::rules_of;
 use std::alloc::Global;
 use std::process::Abort;
 use std::test::Fail;
 use std::thread::Threads;
-
-const ASSIST: &str = "assist layout kernels rules mask table 4 2 1 10";
 
 /// The square grown by a pixel, among its four bars.
 const GROWN: [Sides; 5] = [
@@ -156,49 +153,6 @@ fn numbers_of_bars_that_are_refused(rt: HostRuntime) -> Result<(), Fail> {
             moves: none,
         };
         check_refused(&rt, alloc, &line, &found, status, said)?;
-    }
-    Ok(())
-}
-
-/// The first 10 bytes of a file.
-fn beginning(bytes: &[u8]) -> &[u8] {
-    match bytes.get(..10) {
-        Some(first) => first,
-        None => bytes,
-    }
-}
-
-#[test]
-fn calls_of_assist_that_fail(rt: HostRuntime) -> Result<(), Fail> {
-    let alloc = rt.alloc();
-    let layout = layout_of(alloc, &[SQUARE])?;
-    let kernels = kernel_of(alloc, &ONES)?;
-    let rules = rules_of(alloc, &[])?;
-    let found = Found {
-        layout: &layout,
-        kernels: &kernels,
-        rules: &rules,
-        moves: b"",
-    };
-    let mask = mask_of(alloc, &GROWN)?;
-    let table = DARK.as_bytes();
-    let rows = [
-        (1, 0, 3, OLD, OLD, "opc: cannot read layout\n"),
-        (2, 0, 3, OLD, OLD, "opc: cannot read kernels\n"),
-        (3, 0, 3, OLD, OLD, "opc: cannot read rules\n"),
-        (4, 10, 4, beginning(&mask), OLD, "opc: cannot write mask\n"),
-        (5, 0, 4, &mask, b"".as_slice(), "opc: cannot write table\n"),
-        (6, 4, 4, &mask, table, "end "),
-    ];
-    for (call, keep, status, mask, table, said) in rows {
-        let left = Left {
-            status,
-            mask,
-            table,
-            said: said.as_bytes(),
-        };
-        let fails = one(alloc, BEFORE.saturating_add(call), keep)?;
-        check_left(&rt, alloc, ASSIST, &found, fails, &left)?;
     }
     Ok(())
 }

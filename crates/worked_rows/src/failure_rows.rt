@@ -74,6 +74,23 @@ fn each_call_of_a_correction_fails(rt: HostRuntime) -> Result<(), test::Fail> {
         two(alloc, first, second)?,
         &unread,
     )?;
+    let unwritten = left(4, mask, b"opc", b"opc: cannot");
+    let first = Fail {
+        call: BEFORE + 5,
+        keep: 3,
+    };
+    let second = Fail {
+        call: BEFORE + 6,
+        keep: 11,
+    };
+    check_left(
+        &rt,
+        alloc,
+        CORRECT,
+        &found,
+        two(alloc, first, second)?,
+        &unwritten,
+    )?;
     check_left(
         &rt,
         alloc,

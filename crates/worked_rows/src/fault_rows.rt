@@ -108,24 +108,6 @@ fn the_lowest_wrong_reference(rt: HostRuntime) -> Result<(), NoMemory> {
     check_refused(&rt, alloc, &drawing.end()?, line)
 }
 
-#[test]
-fn cycles(rt: HostRuntime) -> Result<(), NoMemory> {
-    let alloc = rt.alloc();
-    let mut reached = Drawing::new(alloc)?;
-    reached.copy(b"AA", UPRIGHT, (0, 0))?;
-    reached.structure(b"AA")?;
-    reached.copy(b"BB", UPRIGHT, (0, 0))?;
-    reached.structure(b"BB")?;
-    reached.copy(b"AA", UPRIGHT, (0, 0))?;
-    let cycle = "opc: layout: cycle through structure 1\n";
-    check_refused(&rt, alloc, &reached.end()?, cycle)?;
-    let mut unreached = Drawing::new(alloc)?;
-    unreached.square(0, 0, 10)?;
-    unreached.structure(b"AA")?;
-    unreached.copy(b"AA", UPRIGHT, (0, 0))?;
-    check_cover(&rt, alloc, &unreached.end()?, &[(9, 9, 1)])
-}
-
 /// A structure that refers to itself, then to this one, and then to 32,767 by 32,767 squares.
 fn cycle_and(alloc: Global, name: &[u8]) -> Result<Vec<u8>, NoMemory> {
     let mut drawing = Drawing::new(alloc)?;

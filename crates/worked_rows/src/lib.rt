@@ -8,7 +8,11 @@
 #[cfg(test)]
 mod assist_rows;
 #[cfg(test)]
+mod condition_rows;
+#[cfg(test)]
 mod cut_rows;
+#[cfg(test)]
+mod device_rows;
 #[cfg(test)]
 mod drawing;
 #[cfg(test)]

@@ -11,12 +11,21 @@ use std::process::Abort;
 use std::test;
 use std::thread::Threads;
 
-/// What `simulate`, `correct` and `moves` are asked for in the rows.
+/// What the commands are asked for in the rows.
 pub const SIMULATE: &str = "simulate layout kernels rules table";
 
 pub const CORRECT: &str = "correct layout kernels rules mask table";
 
 pub const MOVES: &str = "moves layout kernels rules moves mask table";
+
+pub const CHECK: &str = "check layout kernels rules mask table";
+
+pub const POLYGONS: &str = "polygons layout kernels rules mask table";
+
+pub const ASSIST: &str = "assist layout kernels rules mask table 4 2 1 10";
+
+/// One condition twice.
+pub const WINDOW: &str = "window layout rules mask table kernels 37 1 kernels 37 1";
 
 /// The files that a run finds.
 #[derive(Clone, Copy)]
@@ -140,6 +149,32 @@ pub fn count_lines(text: &[u8], begin: &[u8]) -> usize {
     count
 }
 
+/// The files that a run leaves under the names of mask and table, and what it said.
+#[derive(Drop)]
+pub struct Whole {
+    pub mask: Vec<u8>,
+    pub table: Vec<u8>,
+    pub said: Vec<u8>,
+}
+
+/// What a run of this line leaves, after status 0.
+pub fn whole_of<R: Threads + Abort + Sync>(
+    rt: &R,
+    alloc: Global,
+    line: &str,
+    found: &Found<'_>,
+) -> Result<Whole, test::Fail> {
+    let mut host = host_over(alloc, found, none(alloc))?;
+    let words = words_of_line(alloc, line)?;
+    let status = opc_run(rt, alloc, &words, &mut host, &NoWatch);
+    assert!(rt; status == 0, "{line}: {status}");
+    Ok(Whole {
+        mask: bytes_of(alloc, host.file("mask"))?,
+        table: bytes_of(alloc, host.file("table"))?,
+        said: host.said().to_vec(alloc)?,
+    })
+}
+
 /// The files that a run of this line leaves under the names of mask and table, after status 0.
 pub fn outputs_of<R: Threads + Abort + Sync>(
     rt: &R,
@@ -147,14 +182,8 @@ pub fn outputs_of<R: Threads + Abort + Sync>(
     line: &str,
     found: &Found<'_>,
 ) -> Result<(Vec<u8>, Vec<u8>), test::Fail> {
-    let mut host = host_over(alloc, found, none(alloc))?;
-    let words = words_of_line(alloc, line)?;
-    let status = opc_run(rt, alloc, &words, &mut host, &NoWatch);
-    assert!(rt; status == 0, "{line}: {status}");
-    Ok((
-        bytes_of(alloc, host.file("mask"))?,
-        bytes_of(alloc, host.file("table"))?,
-    ))
+    let whole = whole_of(rt, alloc, line, found)?;
+    Ok((whole.mask, whole.table))
 }
 
 /// A copy of a file, or nothing where there is none.

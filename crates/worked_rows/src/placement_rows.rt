@@ -153,28 +153,6 @@ fn a_magnified_copy(rt: HostRuntime) -> Result<(), NoMemory> {
     check_cover(&rt, alloc, &drawing.end()?, &[(9, 9, 1), (10, 10, 0)])
 }
 
-/// Five structures of squares of 32,767 by 32,767 copies of the next; the last has the square if it is `full`.
-fn nested_arrays(alloc: Global, full: bool) -> Result<Vec<u8>, NoMemory> {
-    let mut drawing = Drawing::new(alloc)?;
-    for name in [b"AA", b"BB", b"CC", b"DD", b"EE"] {
-        let points = [(0, 0), (32_767, 0), (0, 32_767)];
-        drawing.array(name, UPRIGHT, (32_767, 32_767), &points)?;
-        drawing.structure(name)?;
-    }
-    if full {
-        drawing.square(0, 0, 1)?;
-    }
-    drawing.end()
-}
-
-#[test]
-fn great_arrays(rt: HostRuntime) -> Result<(), NoMemory> {
-    let alloc = rt.alloc();
-    let too_many = "opc: layout: too many points 18446744073709551615\n";
-    check_refused(&rt, alloc, &nested_arrays(alloc, true)?, too_many)?;
-    check_cover(&rt, alloc, &nested_arrays(alloc, false)?, &[(0, 0, 0)])
-}
-
 /// A name of four letters for each number below 65,536.
 fn name_of(number: u32) -> [u8; 4] {
     [

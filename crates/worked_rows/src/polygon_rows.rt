@@ -3,6 +3,7 @@
 use crate::drawing::{Drawing, Point};
 use crate::files::{ONES, kernel_of};
 use crate::hosts::{no_files, none};
+use crate::outputs::POLYGONS;
 use crate::runs::words_of_line;
 use opc_base::{Bytes, Host, MemHost, NoWatch};
 use opc_cli::opc_run;
@@ -54,7 +55,7 @@ fn check<R: Threads + Abort + Sync>(
     let status = opc_run(rt, alloc, &words, &mut host, &NoWatch);
     assert_eq!(rt; status, 0);
     let line = host.said().to_vec(alloc)?;
-    let words = words_of_line(alloc, "polygons layout kernels rules mask table")?;
+    let words = words_of_line(alloc, POLYGONS)?;
     let status = opc_run(rt, alloc, &words, &mut host, &NoWatch);
     assert_eq!(rt; status, 0);
     assert_eq!(rt;

@@ -1,16 +1,14 @@
 //! Rows of `check`: printed images as layouts, lists of flaws, and what is refused.
 
 use crate::files::{ONES, SQUARE, Sides, kernel_of, layout_of, mask_of};
-use crate::hosts::{none, one};
-use crate::outputs::{BEFORE, Found, Left, OLD, check_left, check_refused};
+use crate::hosts::none;
+use crate::outputs::{CHECK, Found, Left, check_left, check_refused};
 use crate::rules::rules_of;
 use opc_base::NoMemory;
 use std::alloc::Global;
 use std::process::Abort;
 use std::test::Fail;
 use std::thread::Threads;
-
-const CHECK: &str = "check layout kernels rules mask table";
 
 /// What is printed of some shapes under some rules, and the list.
 #[derive(Drop)]
@@ -219,51 +217,6 @@ fn each_file_is_refused(rt: HostRuntime) -> Result<(), Fail> {
             moves: b"",
         };
         check_refused(&rt, alloc, CHECK, &found, status, said)?;
-    }
-    Ok(())
-}
-
-#[test]
-fn each_call_of_a_check_fails(rt: HostRuntime) -> Result<(), Fail> {
-    let alloc = rt.alloc();
-    let layout = layout_of(alloc, &[SQUARE])?;
-    let kernels = kernel_of(alloc, &ONES)?;
-    let rules = rules_of(alloc, &[])?;
-    let found = Found {
-        layout: &layout,
-        kernels: &kernels,
-        rules: &rules,
-        moves: b"",
-    };
-    let printed = mask_of(alloc, &[SQUARE])?;
-    let printed = printed.as_slice();
-    let list = b"opc print 1\nend rectangles 1 pinches 0 bridges 0\n".as_slice();
-    let left = |status, mask, table, said| Left {
-        status,
-        mask,
-        table,
-        said,
-    };
-    let rows = [
-        (1, left(3, OLD, OLD, b"opc: cannot read layout\n")),
-        (2, left(3, OLD, OLD, b"opc: cannot read kernels\n")),
-        (3, left(3, OLD, OLD, b"opc: cannot read rules\n")),
-        (
-            4,
-            left(4, b"\x00\x06\x00\x02", OLD, b"opc: cannot write mask\n"),
-        ),
-        (5, left(4, printed, b"opc ", b"opc: cannot write table\n")),
-        (6, left(4, printed, list, b"end ")),
-    ];
-    for (call, left) in rows {
-        check_left(
-            &rt,
-            alloc,
-            CHECK,
-            &found,
-            one(alloc, BEFORE + call, 4)?,
-            &left,
-        )?;
     }
     Ok(())
 }

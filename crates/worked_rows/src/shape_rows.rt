@@ -143,23 +143,3 @@ fn the_most_points(rt: HostRuntime) -> Result<(), NoMemory> {
     check_cover(&rt, alloc, &many_points(alloc, 256)?, &[(9, 9, 1)])?;
     check_refused(&rt, alloc, &many_points(alloc, 257)?, too_many)
 }
-
-/// 1,024 by 512 copies of a path of two points without width, which have 1,048,576 points, and a square if it is asked for.
-fn many_paths(alloc: Global, with_square: bool) -> Result<Vec<u8>, NoMemory> {
-    let mut drawing = Drawing::new(alloc)?;
-    drawing.array(b"CELL", UPRIGHT, (1_024, 512), &[(0, 0), (0, 0), (0, 0)])?;
-    if with_square {
-        drawing.square(0, 0, 10)?;
-    }
-    drawing.structure(b"CELL")?;
-    drawing.bare_path(&[(0, 0), (10, 0)])?;
-    drawing.end()
-}
-
-#[test]
-fn the_most_points_of_paths(rt: HostRuntime) -> Result<(), NoMemory> {
-    let alloc = rt.alloc();
-    let too_many = "opc: layout: too many points 1048581\n";
-    check_cover(&rt, alloc, &many_paths(alloc, false)?, &[(5, 0, 0)])?;
-    check_refused(&rt, alloc, &many_paths(alloc, true)?, too_many)
-}
