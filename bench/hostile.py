@@ -89,6 +89,13 @@ def contents():
     return {"layout": small_layout(), "kernels": kernel_file(), "rules": RULES.encode(), "moves": MOVES}
 
 
+def masked_kernels():
+    """The second format: two kernels, and light through what isn't covered."""
+    entries = struct.pack(">hh", 1, 0) * 9 + struct.pack(">hh", 0, 1) * 9
+    return b"OPK2" + struct.pack(">HH", 2, 1) + struct.pack(">4h", 1, 0, 0, 1) + b"".join(
+        struct.pack(">H", weight) + entries[at : at + 36] for weight, at in ((1, 0), (2, 36)))
+
+
 def words(command, folder):
     inputs, outputs = COMMANDS[command]
     every = f"{inputs} {outputs} {AFTER.get(command, '')}".split()

@@ -113,12 +113,22 @@ static int sees(int far, struct pix at, const struct rect *r)
     return meet(&window, r);
 }
 
+static int sample_sees(uint32_t number, int sample, const struct rect *r)
+{
+    return sees(reach, site(number, sample - samples), r);
+}
+
+/* From the first sample that sees the rectangle up to the last that does. */
 static void add_to_fragment(int64_t *sums, uint32_t number, const struct rect *r)
 {
-    for (int sample = 0; sample < 2 * samples; sample++) {
+    int first = 0, end = 2 * samples;
+    while (first < end && !sample_sees(number, first, r))
+        first++;
+    while (end > first && !sample_sees(number, end - 1, r))
+        end--;
+    for (int sample = first; sample < end; sample++) {
         struct pix at = site(number, sample - samples);
-        if (sees(reach, at, r))
-            add_rect(sums + (size_t)sample * (size_t)lane_count, at.x, at.y, r->x0, r->y0, r->x1, r->y1);
+        add_rect(sums + (size_t)sample * (size_t)lane_count, at.x, at.y, r->x0, r->y0, r->x1, r->y1);
     }
 }
 

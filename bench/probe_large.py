@@ -1,10 +1,10 @@
 #!/usr/bin/env python3
-"""Makes large layouts from a seed, and prints the wall time and the peak memory of `opc probe` on each.
+"""Makes large layouts from a seed, and prints how long `opc probe` takes on each and how much memory.
 
-usage: bench/probe_large.py PROGRAM [FOLDER]
+usage: bench/probe_large.py PROGRAM [NAME..]
 
-PROGRAM is the built program (`rt run` in crates/opc leaves it as crates/opc/out/opc). The layouts are written to FOLDER,
-or to a temporary one. Run by hand; the gate never runs it.
+PROGRAM is the built program (`rt run` in crates/opc leaves it as crates/opc/out/opc). Each row has the least times of three runs,
+and the peak memory. With names, only these layouts are tried. Run by hand; the gate never runs it.
 """
 import os
 import random
@@ -95,12 +95,48 @@ def both_ways(count):
     return layout(structure(b"TOP", columns + rows))
 
 
+def many(name, columns, rows, across, up):
+    """An array reference to a structure of a name of even length."""
+    corners = points((0, 0), (columns * across, 0), (0, rows * up))
+    return (record(0x0B00) + record(0x1206, name) + record(0x1302, struct.pack(">hh", columns, rows))
+            + record(0x1003, corners) + record(0x1100))
+
+
+def one(name, x, y):
+    """A reference to a structure of a name of even length."""
+    return record(0x0A00) + record(0x1206, name) + record(0x1003, points((x, y))) + record(0x1100)
+
+
 def array(columns, rows):
     """An array of a square, 5 points a copy, side by side."""
-    corners = points((0, 0), (columns * 10, 0), (0, rows * 10))
-    reference = (record(0x0B00) + record(0x1206, b"CELL") + record(0x1302, struct.pack(">hh", columns, rows))
-                 + record(0x1003, corners) + record(0x1100))
-    return layout(structure(b"TOP", reference) + structure(b"CELL", boundary(1, 0, 0, 10, 10)))
+    return layout(structure(b"TOP", many(b"CELL", columns, rows, 10, 10)) + structure(b"CELL", boundary(1, 0, 0, 10, 10)))
+
+
+def polygons(columns, rows):
+    """An array of a cross, 14 points a copy, whose corners its neighbours cover."""
+    cross = points((2, 0), (10, 0), (18, 0), (18, 2), (20, 2), (20, 18), (18, 18), (18, 20), (2, 20), (2, 18), (0, 18), (0, 2), (2, 2), (2, 0))
+    cell = record(0x0800) + record(0x0D02, b"\0\1") + record(0x0E02, b"\0\0") + record(0x1003, cross) + record(0x1100)
+    return layout(structure(b"TOP", many(b"CELL", columns, rows, 10, 10)) + structure(b"CELL", cell))
+
+
+def structures(count, others):
+    """So many structures, each with a square and so many rectangles on another layer. The squares lie side by side."""
+    side = 250
+    names = [b"S%07d" % i for i in range(count)]
+    cells = b"".join(structure(name, boundary(1, 0, 0, 10, 10) + boundary(2, 0, 0, 10, 10) * others) for name in names)
+    return layout(structure(b"TOP", b"".join(one(name, 10 * (i % side), 10 * (i // side)) for i, name in enumerate(names))) + cells)
+
+
+def references(count):
+    """So many references to a structure that places nothing."""
+    return layout(structure(b"TOP", one(b"NOTHINGYET", 0, 0) * count) + structure(b"NOTHINGYET", b""))
+
+
+def crossing(count):
+    """An array of so many columns across one of so many rows."""
+    length = 2 * count
+    top = many(b"COLUMN", count, 1, 2, 2) + many(b"ROWS", 1, count, 2, 2)
+    return layout(structure(b"TOP", top) + structure(b"COLUMN", boundary(1, 0, 0, 1, length)) + structure(b"ROWS", boundary(1, 0, 0, length, 1)))
 
 
 def other_layers(size):
@@ -111,13 +147,18 @@ def other_layers(size):
 
 
 LAYOUTS = {
+    "structures": lambda: structures(60_000, 15),
+    "array": lambda: array(1023, 205),
+    "polygons": lambda: polygons(274, 273),
     "overlapping": lambda: overlapping(100_000),
     "one_row": lambda: tall(15_000),
     "active": lambda: active(100_000),
     "comb": lambda: comb(16_384),
     "joined_comb": lambda: joined_comb(8_000),
     "both_ways": lambda: both_ways(8_192),
-    "array": lambda: array(1023, 205),
+    "references": lambda: references(1_900_000),
+    "crossing": lambda: crossing(2_000),
+    "crossing_more": lambda: crossing(32_000),
     "other_layers": lambda: other_layers(67_108_864),
 }
 
@@ -126,28 +167,40 @@ def kernel_file():
     return b"OPK1" + struct.pack(">HHH", 1, 1, 1) + struct.pack(">hh", 1, 0) * 9
 
 
-def measure(program, folder, name, content):
-    path = os.path.join(folder, name + ".gds")
-    kernels = os.path.join(folder, "k1.opk")
-    with open(path, "wb") as file:
-        file.write(content)
-    with open(kernels, "wb") as file:
-        file.write(kernel_file())
-    words = [program, "probe", path, kernels, "TOP", "1", "0", "5", "5"]
+def write_files(folder, make):
+    """Makes and writes the files in a process of its own, since a child's peak memory counts that of the process that starts it."""
+    child = os.fork()
+    if child == 0:
+        for file, content in (("layout", make()), ("kernels", kernel_file())):
+            with open(os.path.join(folder, file), "wb") as out:
+                out.write(content)
+        os._exit(0)
+    if os.waitpid(child, 0)[1]:
+        sys.exit("the files could not be written")
+
+
+def run_once(program, folder):
+    """What a run says, its wall time and processor time in seconds, and its peak memory in MiB."""
+    paths = (os.path.join(folder, "layout"), os.path.join(folder, "kernels"))
     begin = time.time()
-    child = subprocess.Popen(words, stdout=subprocess.PIPE)
+    child = subprocess.Popen([program, "probe", *paths, "TOP", "1", "0", "5", "5"], stdout=subprocess.PIPE)
     said = child.stdout.read().decode().strip()
     _, _, usage = os.wait4(child.pid, 0)
-    seconds = time.time() - begin
-    print(f"{name}: {len(content)} bytes, {seconds:.2f} s, {usage.ru_maxrss // 1024} MiB, said {said!r}", flush=True)
+    return said, time.time() - begin, usage.ru_utime + usage.ru_stime, usage.ru_maxrss // 1024
 
 
 def main():
     if len(sys.argv) < 2:
         sys.exit(__doc__)
-    folder = sys.argv[2] if len(sys.argv) > 2 else tempfile.mkdtemp()
-    for name, make in LAYOUTS.items():
-        measure(sys.argv[1], folder, name, make())
+    print("| Layout | Bytes | Said | Time | Processor time | Peak memory |\n|---|---|---|---|---|---|")
+    with tempfile.TemporaryDirectory() as folder:
+        for name, make in LAYOUTS.items():
+            if not sys.argv[2:] or name in sys.argv[2:]:
+                write_files(folder, make)
+                runs = [run_once(os.path.abspath(sys.argv[1]), folder) for _ in range(3)]
+                wall, processor = (min(it[at] for it in runs) for at in (1, 2))
+                print(f"| {name} | {os.path.getsize(os.path.join(folder, 'layout')):,} | `{runs[0][0]}` | {wall * 1e3:.0f} ms "
+                      f"| {processor * 1e3:.0f} ms | {max(it[3] for it in runs)} MiB |", flush=True)
 
 
 if __name__ == "__main__":

@@ -102,6 +102,52 @@ if [ -n "$small" ]; then
     same "then the mask is whole" m whole_mask
 else echo "not run: a full disk (no leave to mount; name a small folder by SMALL)"; fi
 
+# each command: each input absent or endless, each output a folder or a full device, and an answer that can't be said
+list() { PYTHONPATH=$here PYTHONDONTWRITEBYTECODE=1 python3 -c "import hostile; print(*$1, sep='\n')"; }
+# run_but COMMAND OLD NEW: a run of the command with fresh outputs and a word in place of another
+run_but() {
+    local command=$1 old=$2 new=$3 words=() word
+    while read -r word; do [ "$word" = "$old" ] && word=$new; words+=("$word"); done < <(list "hostile.words('$command', '.')")
+    for word in mask table; do printf old > $word; done
+    "$opc" "${words[@]}"
+}
+# stands NAME SO_MANY OUTPUT..: so many outputs are those of the whole run, and the others as they were
+stands() {
+    local name=$1 whole=$2 output; shift 2
+    for output; do
+        if [ "$whole" -gt 0 ]; then same "$name: $output is whole" "$output" "whole_$output"; else same "$name: $output is as it was" "$output" old; fi
+        whole=$((whole - 1))
+    done
+}
+export opc here
+export -f run_but list
+for command in $(list "[it for it in hostile.COMMANDS if it != 'trial']"); do
+    run_but "$command" - - > said; got=$?
+    if [ $got -eq 2 ]; then echo "not run: $command isn't a command of this program"; continue; fi
+    outputs=($(list "hostile.outputs('$command')"))
+    for output in "${outputs[@]}"; do cp "$output" "whole_$output"; done
+    inputs=$(list "dict.fromkeys(it for it in hostile.words('$command', '.')[1:] if it[:2] == './' and it[2:] not in hostile.outputs('$command'))")
+    for input in $inputs; do
+        check "$command: $input is absent" 3 "opc: cannot read ./absent" bash -c "run_but $command $input ./absent"
+        stands "$command: $input is absent" 0 "${outputs[@]}"
+        check "$command: $input is endless" "$(case $input in ./layout) echo 5 ;; ./kernels) echo 6 ;; ./rules) echo 7 ;; *) echo 8 ;; esac)" \
+            "opc: ${input#./}: too long" bash -c "run_but $command $input /dev/zero"
+        stands "$command: $input is endless" 0 "${outputs[@]}"
+    done
+    at=0
+    for output in "${outputs[@]}"; do
+        for place in ./folder /dev/full; do
+            check "$command: $output is $place" 4 "opc: cannot write $place" bash -c "run_but $command ./$output $place"
+            stands "$command: $output is $place" "$at" "${outputs[@]:0:at}"
+            stands "$command: $output is $place" 0 "${outputs[@]:at + 1}"
+        done
+        at=$((at + 1))
+    done
+    check "$command: the answer can't be said" 4 "" bash -c "run_but $command - - > /dev/full"
+    stands "$command: the answer can't be said" 9 "${outputs[@]}"
+done
+"$opc" correct layout kernels rules whole_mask whole_table > /dev/null
+
 # signals that interrupt calls: the run is stopped and goes on, many times
 "$opc" correct layout kernels rules m t > said & child=$!
 for _ in 1 2 3 4 5 6 7 8; do kill -STOP $child 2>/dev/null; kill -CONT $child 2>/dev/null; done

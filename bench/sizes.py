@@ -4,7 +4,7 @@
 usage: bench/sizes.py PROGRAM [NAME..]
 
 Each row is one run: its files, its status and line, its wall time, its processor time and its
-peak memory. Run by hand; the gate never runs it.
+peak memory. With names, only the rows are run whose names have one of them. Run by hand; the gate never runs it.
 """
 import os
 import random
@@ -40,13 +40,18 @@ def kernels(count, reach):
     return bytes(out)
 
 
-def squares(columns, rows):
-    """An array of squares, 20 pixels apart: four fragments each with piece = 8 or more and line_end = 10."""
+def squares(columns, rows, pitch=20):
+    """An array of squares, so many pixels from one to the next: four fragments each with piece = 8 or more and line_end = 10."""
     cell = boundary(1, 0, 0, 10, 10)
-    corners = struct.pack(">iiiiii", 0, 0, 20 * columns, 0, 0, 20 * rows)
+    corners = struct.pack(">iiiiii", 0, 0, pitch * columns, 0, 0, pitch * rows)
     reference = (record(0x0B00) + record(0x1206, b"CELL") + record(0x1302, struct.pack(">hh", columns, rows))
                  + record(0x1003, corners) + record(0x1100))
     return layout(structure(b"TOP\0", reference) + structure(b"CELL", cell))
+
+
+def bar(length):
+    """One bar of 10 pixels across, whose long edges have a fragment for each 8 pixels."""
+    return layout(structure(b"TOP\0", boundary(1, 0, 0, length, 10)))
 
 
 def filled(text, size):
@@ -77,10 +82,27 @@ ROWS = (
     ("65,540 corners", "probe", lambda: {"layout": comb(16_385)}),
     ("32,768 fragments, one kernel, simulate", "simulate", lambda: {"layout": squares(128, 64)}),
     ("32,768 fragments, one kernel, correct", "correct", lambda: {"layout": squares(128, 64)}),
+    ("a bar of 131,042 by 10 pixels, 32,764 fragments along two lines, correct", "correct", lambda: {"layout": bar(131_042)}),
     ("32,772 fragments", "simulate", lambda: {"layout": squares(8193, 1)}),
+    ("32,768 fragments, one kernel, polygons", "polygons", lambda: {"layout": squares(128, 64)}),
+    ("32,768 fragments, one kernel, a window of 2558 by 1278 pixels", "check", lambda: {"layout": squares(128, 64)}),
+    ("a window of more than 4,194,304 pixels", "check", lambda: {"layout": squares(2, 2, 2031)}),
+    ("1,638 squares with four bars each, 32,760 fragments", "assist", lambda: {"layout": squares(42, 39, 60)}),
+    ("1,640 squares with four bars each, 32,800 fragments", "assist", lambda: {"layout": squares(41, 40, 60)}),
+    ("32,768 fragments, four conditions of one kernel", "window", lambda: {"layout": squares(128, 64)}),
+    ("the greatest trial", "trial", lambda: {}),
+    ("30,056 fragments, 8 kernels of reach 40, simulate, 1 worker", "simulate", lambda: session(0, 1)),
+    ("30,056 fragments, 8 kernels of reach 40, simulate, 4 workers", "simulate", lambda: session(0, 4)),
+    ("30,056 fragments, 8 kernels of reach 40, correct in 4 rounds, 1 worker", "correct", lambda: session(4, 1)),
+    ("30,056 fragments, 8 kernels of reach 40, correct in 4 rounds, 4 workers", "correct", lambda: session(4, 4)),
+    ("30,056 fragments, 8 kernels of reach 40, 60,000 moves, 1 worker", "moves", lambda: session(0, 1)),
+    ("30,056 fragments, 8 kernels of reach 40, 60,000 moves, 4 workers", "moves", lambda: session(0, 4)),
+    ("30,056 fragments, 16 kernels of reach 64, simulate, 4 workers", "simulate", lambda: session(0, 4, 16, 64)),
+    ("30,056 fragments, 16 kernels of reach 64, correct in one round, 4 workers", "correct", lambda: session(1, 4, 16, 64)),
     ("32,768 fragments, 16 kernels of reach 64, 16 samples, simulate", "simulate", lambda: greatest(0)),
     ("32,768 fragments, 16 kernels of reach 64, 16 samples, correct in one round, 1 worker", "correct", lambda: greatest(1, 1)),
     ("32,768 fragments, 16 kernels of reach 64, 16 samples, correct in one round, 4 workers", "correct", lambda: greatest(1, 4)),
+    ("a window of 2684 by 1404 pixels, 16 kernels of reach 64, no round, 4 workers", "check", lambda: greatest(0, 4)),
 )
 
 WORDS = {
@@ -88,6 +110,11 @@ WORDS = {
     "simulate": ("layout", "kernels", "rules", "table"),
     "correct": ("layout", "kernels", "rules", "mask", "table"),
     "moves": ("layout", "kernels", "rules", "moves", "mask", "table"),
+    "polygons": ("layout", "kernels", "rules", "mask", "table"),
+    "check": ("layout", "kernels", "rules", "mask", "table"),
+    "assist": ("layout", "kernels", "rules", "mask", "table", "=4", "=2", "=1", "=10"),
+    "window": ("layout", "rules", "mask", "table") + ("kernels", "=37", "=1") * 4,
+    "trial": ("=64",),
 }
 
 
@@ -101,6 +128,13 @@ def greatest(rounds, workers=1):
     """The greatest session: 256 MiB of sums. The threshold lies where the image of these squares has it."""
     return {"layout": squares(128, 64), "kernels": kernels(16, 64),
             "rules": rules(samples=16, rounds=rounds, workers=workers, threshold=1_500_000_000, tile=256)}
+
+
+def session(rounds, workers, count=8, reach=40):
+    """7,514 squares, 8 samples, and moves of each fragment to and fro. The threshold lies where the image of these squares has it."""
+    lines = [b"%d %d\n" % (at % 30_056, 1 if at < 30_056 else -1) for at in range(60_000)]
+    return {"layout": squares(221, 34), "kernels": kernels(count, reach), "moves": b"".join(lines),
+            "rules": rules(samples=8, rounds=rounds, workers=workers, threshold=count * reach**4 * 16, tile=256)}
 
 
 def write_files(change, folder):
