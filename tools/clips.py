@@ -16,9 +16,12 @@ seams    computes the image of the joined mask, in floating point, at each fragm
          says its errors beside those that the clips' tables had; and judges widths and spaces there by KLayout.
 compare  says how two joined masks differ near the seams of the first: the second is of a plan made with --shift.
 """
+import contextlib
 import json
 import os
+import shutil
 import sys
+import tempfile
 
 sys.path.insert(0, os.path.dirname(os.path.abspath(__file__)))
 import opcfiles
@@ -59,6 +62,26 @@ def without_slivers(clip, box, least):
     return clip - (narrow & border)
 
 
+@contextlib.contextmanager
+def new_folder(path):
+    """A folder under another name beside, which gets its name when all in it is written; a failure leaves none."""
+    try:
+        made = tempfile.mkdtemp(dir=os.path.dirname(os.path.abspath(path)), prefix=".opc-")
+    except OSError as fault:
+        raise BadInput(f"cannot make {path} ({fault.strerror}): name a folder in one that is there and may be written") from None
+    try:
+        yield made
+        mask = os.umask(0)
+        os.umask(mask)
+        os.chmod(made, 0o777 & ~mask)
+        os.rename(made, path)
+    except BaseException as fault:
+        shutil.rmtree(made, ignore_errors=True)
+        if isinstance(fault, (OSError, RuntimeError)):  # (of KLayout's writing)
+            raise BadInput(f"cannot make {path} ({fault}): make room, or name another folder") from None
+        raise
+
+
 def write_clip(path, region, dbu, rules):
     import pya
 
@@ -96,8 +119,6 @@ def cores_of(box, grid, side, shift):
 
 
 def cut(given):
-    import pya
-
     import image
 
     rules = opcfiles.read_rules(given.rules)
@@ -105,16 +126,31 @@ def cut(given):
     target, dbu = image.target_of(given.layout, rules)
     if target.is_empty():
         raise BadInput(f"{given.layout} has nothing on the layer of {given.rules}: see its keys top, layer and datatype")
-    grid, least = rules["grid"], rules["width"] * rules["grid"]
+    plan = {"grid": rules["grid"], "dbu": dbu, "side": given.side, "margin": margin, "rules": rules,
+            "layout": os.path.abspath(given.layout), "rules_path": os.path.abspath(given.rules), "clips": {}}
+    with new_folder(given.folder) as folder:
+        for name in ("clips", "masks", "tables", "said"):
+            os.mkdir(os.path.join(folder, name))
+        write_clips(folder, target, plan, given.shift)
+        for name, content in (("kernels.opk", opcfiles.read_whole(given.kernels)),
+                              ("rules.toml", opcfiles.rules_text({**rules, "top": TOP})),
+                              ("jobs.txt", "".join(JOB.format(it) + "\n" for it in plan["clips"])),
+                              ("plan.json", json.dumps(plan, indent=1))):
+            opcfiles.write_whole(os.path.join(folder, name), content)
+    print(f"{len(plan['clips'])} clips, cores of {given.side} pixels, margin {margin}")
+
+
+def write_clips(folder, target, plan, shift):
+    """Writes a layout a clip, and puts the clips' places into the plan."""
+    import pya
+
+    rules, grid, side, margin = (plan[key] for key in ("rules", "grid", "side", "margin"))
+    least = rules["width"] * grid
     moved = max(rules["max_in"], rules["max_out"]) * grid  # (so far a mask reaches beyond its target)
-    for name in ("", "clips", "masks", "tables", "said"):
-        os.mkdir(os.path.join(given.folder, name))
     shapes = pya.Layout()
     index, cell = shapes.layer(1, 0), shapes.create_cell("T")
     cell.shapes(index).insert(target)  # (a cell finds what touches a box quickly; a region goes through all)
-    plan = {"grid": grid, "dbu": dbu, "side": given.side, "margin": margin, "rules": rules, "layout": os.path.abspath(given.layout),
-            "rules_path": os.path.abspath(given.rules), "clips": {}}
-    for (row, column), core in cores_of(target.bbox().enlarged(moved, moved), grid, given.side, given.shift).items():
+    for (row, column), core in cores_of(target.bbox().enlarged(moved, moved), grid, side, shift).items():
         inside = pya.Box(*(it * grid for it in core))
         box = inside.enlarged(margin * grid, margin * grid)
         near = pya.Region(cell.begin_shapes_rec_touching(index, box)) & pya.Region(box)
@@ -123,14 +159,8 @@ def cut(given):
         middle = ((core[0] + core[2]) // 2, (core[1] + core[3]) // 2)
         clip = without_slivers(near, box, least).moved(-middle[0] * grid, -middle[1] * grid)
         name = f"{row}_{column}"
-        write_clip(os.path.join(given.folder, "clips", name + ".gds"), clip, dbu, rules)
+        write_clip(os.path.join(folder, "clips", name + ".gds"), clip, plan["dbu"], rules)
         plan["clips"][name] = {"core": core, "middle": middle}
-    for name, content in (("kernels.opk", opcfiles.read_whole(given.kernels)),
-                          ("rules.toml", opcfiles.rules_text({**rules, "top": TOP})),
-                          ("jobs.txt", "".join(JOB.format(it) + "\n" for it in plan["clips"])),
-                          ("plan.json", json.dumps(plan, indent=1))):
-        opcfiles.write_whole(os.path.join(given.folder, name), content)
-    print(f"{len(plan['clips'])} clips, cores of {given.side} pixels, margin {margin}")
 
 
 # Joining
@@ -138,9 +168,12 @@ def cut(given):
 
 def read_plan(folder):
     try:
-        return json.loads(opcfiles.read_whole(os.path.join(folder, "plan.json")))
+        plan = json.loads(opcfiles.read_whole(os.path.join(folder, "plan.json")))
     except ValueError:
-        raise BadInput(f"{folder}/plan.json is damaged: cut the layout again") from None
+        plan = None
+    if not isinstance(plan, dict) or not {"grid", "dbu", "rules", "clips"} <= plan.keys():
+        raise BadInput(f"{folder}/plan.json is damaged: cut the layout again")
+    return plan
 
 
 def check_done(folder, plan):
@@ -155,7 +188,7 @@ def check_done(folder, plan):
         name, said = missing[0]
         why = f"opc said: {said} ({opcfiles.advice(said)})" if said else "it hasn't been run to its end"
         raise BadInput(f"{len(missing)} of {len(plan['clips'])} clips aren't done; clip {name}: {why}. "
-                       f"In {folder}: parallel --joblog log --resume-failed < jobs.txt")
+                       f"In {folder}: parallel --joblog log --resume-failed < jobs.txt (over ssh or by Slurm: docs/SCALING.md)")
 
 
 def clip_table(folder, name):

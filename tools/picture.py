@@ -182,7 +182,10 @@ def draw(given):
     drawing = Drawing(given)
     parts = panels(given, drawing)
     shape = drawing.window.height() / drawing.window.width()
-    height = 6.6 * shape + 1.7
+    wide = len(parts) > 1
+    # below the panels: the bar of colours with its words, and on one panel the legend below those
+    below = 0.85 if wide else 1.15
+    height = 6.6 * shape + below + 0.85
     figure, all_axes = pyplot.subplots(1, len(parts), figsize=(7.2 * len(parts), height), squeeze=False)
     greatest = max(8.0, min(40.0, max(abs(it.error) for _, table, _, _ in parts for it in table.fragments) / 16 * drawing.micron * 1000))
     norm, colours = Normalize(-greatest, greatest), LinearSegmentedColormap.from_list("errors", COLOURS)
@@ -195,11 +198,10 @@ def draw(given):
         drawing.finish(axes, title)
     legend = [Patch(fc="#d9d9d9", ec="#808080", label="target"), Patch(fc="#3b6fd4", ec="#1f4fa8", alpha=0.35, label="mask"),
               Line2D([], [], color="black", lw=1, label="printed contour")]
-    wide = len(parts) > 1
     figure.legend(handles=legend, loc="lower left", ncol=3, fontsize=9, frameon=False, bbox_to_anchor=(0.02, 0.02 if wide else 0.0))
     colour = matplotlib.cm.ScalarMappable(norm=norm, cmap=colours)
-    figure.tight_layout(rect=(0, 0.85 / height, 1, 1))
-    bar = figure.add_axes((0.45 if wide else 0.1, 0.55 / height, 0.5 if wide else 0.8, 0.15 / height))
+    figure.tight_layout(rect=(0, below / height, 1, 1))
+    bar = figure.add_axes((0.45 if wide else 0.1, (below - 0.3) / height, 0.5 if wide else 0.8, 0.15 / height))
     figure.colorbar(colour, cax=bar, orientation="horizontal")
     bar.set_xlabel("edge error in nm: below 0 prints too far in, above 0 too far out", fontsize=9)
     save(figure, given.out)

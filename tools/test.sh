@@ -99,12 +99,20 @@ if [ $have_parallel ]; then
     refuses "join before the clips are done" "$work/bad.gds" "$python" "$here/clips.py" join "$work/clips" "$work/bad.gds"
     passes "correct them, two at a time" bash -c "cd '$work/clips' && parallel --jobs 2 --joblog log < jobs.txt"
     passes "join" "$python" "$here/clips.py" join "$work/clips" "$work/joined.gds"
+    cp -r "$work/clips" "$work/tasks"; rm "$work/tasks"/{masks,tables,said}/*
+    for task in 1 2 3 4; do passes "task $task of 4, as Slurm runs it" bash -c "cd '$work/tasks' && SLURM_ARRAY_TASK_ID=$task SLURM_ARRAY_TASK_MAX=4 bash '$examples/clips.sbatch'"; done
+    for it in masks tables said; do passes "their $it are those of parallel" diff -r "$work/clips/$it" "$work/tasks/$it"; done
+    refuses "a task outside the clips' folder" "$work/nothing" env -C "$work" SLURM_ARRAY_TASK_ID=1 SLURM_ARRAY_TASK_MAX=1 bash "$examples/clips.sbatch"
+    refuses "a task of no array" "$work/nothing" env -C "$work/tasks" bash "$examples/clips.sbatch"
     passes "seams" "$python" "$here/clips.py" seams "$work/clips" "$work/joined.gds"
     passes "cut, shifted by half" "$python" "$here/clips.py" cut "${layer[@]}" "$work/shifted" --side 512 --shift
     passes "correct them" bash -c "cd '$work/shifted' && parallel --jobs 2 --joblog log < jobs.txt"
     passes "join them" "$python" "$here/clips.py" join "$work/shifted" "$work/other.gds"
     passes "compare" "$python" "$here/clips.py" compare "$work/clips" "$work/joined.gds" "$work/other.gds"
     refuses "cut: cores that are too small" "$work/nothing" "$python" "$here/clips.py" cut "${layer[@]}" "$work/clips3" --side 10
+    refuses "cut: a folder that can't be made" "$work/nothing" "$python" "$here/clips.py" cut "${layer[@]}" "$work/absent/clips"
+    echo '{}' > "$work/tasks/plan.json"
+    refuses "join: a plan that is none" "$work/bad.gds" "$python" "$here/clips.py" join "$work/tasks" "$work/bad.gds"
     refuses "cut: a folder that is there" "$work/nothing" "$python" "$here/clips.py" cut "${layer[@]}" "$work/clips"
 fi
 [ $failed -eq 0 ] && echo "all passed"
