@@ -22,3 +22,4 @@ pub mod StripLaws
 pub mod CutLaws
 pub mod OrderLaws
 pub mod BoxLaws
+pub mod BesideLaws

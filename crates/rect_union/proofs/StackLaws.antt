@@ -434,7 +434,7 @@ rows_split : (columns from under below on : Bool) → (below ≡ true → on ≡
     → (columns && from && under) ≡ ((columns && from && below) || ((on && under) && columns))
 rows_split columns from under below on a b c d = grind arith
 
-list_any-set : {X : Type 0} (p : X → Bool) (xs : List X) (i : ℕ) (y d : X) (more : Bool) → i < length xs → p y ≡ (p (get_or xs i d) || more)
+pub list_any-set : {X : Type 0} (p : X → Bool) (xs : List X) (i : ℕ) (y d : X) (more : Bool) → i < length xs → p y ≡ (p (get_or xs i d) || more)
     → list_any p (set xs i y) ≡ (list_any p xs || more)
 list_any-set p [] i y d more within is = absurd (omega arith)
 list_any-set p (x ∷ xs) zero y d more within is = rw is (or_swap (p x) more (list_any p xs))

@@ -17,3 +17,4 @@ pub mod Joins
 pub mod Strips
 pub mod Cuts
 pub mod Boxes
+pub mod Beside

@@ -12,6 +12,7 @@
 //! cover too many rectangles is not joined.
 #![tactic(auto)]
 
+mod beside;
 mod boxes;
 mod columns;
 mod corners;

@@ -52,6 +52,18 @@ fn push_column(columns: &mut Vec<Column>, column: Column) -> Result<(), AllocErr
     requires { weight_of columns.old.items + unsigned_abs column.sign < 2 ^ 126 }
     ensures { OnOk result (Compacts (columns.old.items ++ column ∷ []) columns.new.items) }
 {
+    match columns.last() {
+        Some(last) if last.x == column.x => push_at_last(columns, column)?,
+        _ => columns.push(column)?,
+    }
+    Ok(())
+}
+
+/// The same, which takes the last column off first.
+fn push_at_last(columns: &mut Vec<Column>, column: Column) -> Result<(), AllocError>
+    requires { weight_of columns.old.items + unsigned_abs column.sign < 2 ^ 126 }
+    ensures { OnOk result (Compacts (columns.old.items ++ column ∷ []) columns.new.items) }
+{
     match columns.pop() {
         Some(last) if last.x == column.x && last.owner == column.owner => {
             let sign = last.sign + column.sign;

@@ -5,6 +5,7 @@ ghost use Rattle.opc_base.specs.Cover.{AreRectangles, IsPlaced, outline_cover};
 ghost use Rattle.opc_base.specs.Plane.{cover};
 ghost use Rattle.opc_base.specs.Target.{target};
 
+use crate::beside::add_beside;
 use crate::boxes::box_of;
 use crate::swept::swept_rects;
 use opc_base::{Outline, Rect};
@@ -35,13 +36,26 @@ fn add_rects(alloc: Global, rects: &mut Vec<Rect>, outline: &Outline) -> Result<
 {
     match outline {
         Outline::Polygon(points) => match box_of(points.as_slice()) {
-            Some(rect) => rects.push(rect)?,
+            Some(rect) => add_beside(rects, rect)?,
             None => {
                 let swept = swept_rects(alloc, slice::from_ref(outline))?;
-                rects.extend_from_slice(&swept)?;
+                add_each(rects, &swept)?;
             }
         },
-        Outline::Path(path) => rects.extend_from_slice(path.as_slice())?,
+        Outline::Path(path) => add_each(rects, path.as_slice())?,
+    }
+    Ok(())
+}
+
+/// Adds these rectangles, those that lie beside one another as one.
+fn add_each(rects: &mut Vec<Rect>, more: &[Rect]) -> Result<(), AllocError>
+    requires more { AreRectangles more.now }
+    requires rects { AreRectangles rects.old.items }
+    ensures placed { OnOk result (AreRectangles rects.new.items) }
+    ensures pixels { OnOk result ((x y : ℤ) → cover rects.new.items x y ≡ (cover rects.old.items x y || cover more.now x y)) }
+{
+    for rect in more {
+        add_beside(rects, *rect)?;
     }
     Ok(())
 }

@@ -1,7 +1,7 @@
 use Rattle.std.proofs.Common.{◌≡◌, ◌∙◌, ◌+ℤ◌, pos, sym, ap, SFits, w32, to_z, to_z-of_z, rules}
 use Rattle.std.specs.Int.{w128}
 use Rattle.rect_union.proofs.MergeLaws.{compacts_pair, compacts_none, pair_fits}
-use Rattle.rect_union.proofs.merge.push_column.Goals as goal
+use Rattle.rect_union.proofs.merge.push_at_last.Goals as goal
 
 pub returns-in_ok-push-in-Some : goal.returns-in_ok-push-in-Some
 returns-in_ok-push-in-Some c =
