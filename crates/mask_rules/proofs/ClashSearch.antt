@@ -1,24 +1,21 @@
 -- All that clashes with a stretch is near it.
-use Rattle.std.proofs.Common.{◌≡◌, ◌⊎◌, inl, inr, ℕ, ◌<◌, ℤ, pos, ◌+ℤ◌, ◌-ℤ◌, ◌≤ℤ◌, ◌<ℤ◌, Bool, true, false, Option, Some, None, List, length, get_or, int_le, refl, sym, subst, arith}
+use Rattle.std.proofs.Common.{◌≡◌, ℕ, ◌<◌, ℤ, pos, ◌+ℤ◌, ◌-ℤ◌, ◌≤ℤ◌, ◌<ℤ◌, Bool, true, false, Option, Some, None, List, length, get_or, int_le, refl, sym, subst, arith}
 use Rattle.std.specs.Int.{int_max}
 use Rattle.std.specs.Prelude.{Contains}
 use Rattle.std.proofs.lemmas.Int.{ints}
 use Rattle.outline_model.specs.declared.fragment.Fragment.{Fragment}
 use Rattle.opc_base.specs.declared.plane.Rect.{Rect}
 use Rattle.opc_base.specs.declared.plane.Pix.{Pix}
-use Rattle.outline_model.specs.Limits.{IsFragmentList}
-use Rattle.outline_model.specs.Near.{IsWithinReach, KeepNear}
+use Rattle.outline_model.specs.Near.{IsWithinReach}
 use Rattle.outline_model.specs.Outline.{fragment_at}
 use Rattle.opc_base.specs.Plane.{rect_cover}
 use Rattle.mask_rules.specs.declared.clash.Clash.{Clash}
 use Rattle.mask_rules.specs.declared.clash.Clash.TheVariants.{Meet, Narrow, Touch}
 use Rattle.mask_rules.specs.declared.stretch.Stretch.{Stretch}
-use Rattle.mask_rules.specs.Clashes.{IsClash, clash_pixel, is_meeting, is_narrow, is_touching, clash_area, pair_pixel, ClashesOf}
-use Rattle.mask_rules.specs.First.{IsUpTo, ReachesUpTo, IsFirst}
-use Rattle.mask_rules.specs.Stretches.{Spans, pixel_at, rect_at, stretch_at}
-use Rattle.mask_rules.proofs.Changed.{stretch_within}
+use Rattle.mask_rules.specs.Clashes.{IsClash, clash_pixel, is_meeting, is_narrow, is_touching, clash_area}
+use Rattle.mask_rules.specs.First.{IsUpTo, ReachesUpTo}
+use Rattle.mask_rules.specs.Stretches.{Spans, StandsIn, pixel_at, rect_at}
 use Rattle.mask_rules.proofs.ClashFacts.{and_true, lt_true, some_of, pair_of_test, point_of_test, meeting_of_test}
-use Rattle.mask_rules.proofs.Firsts.{first_from, IsFirst-cover, IsFirst-earlier, IsFirst-one, IsFirst-list, IsFirst-none}
 
 le_true : (a b : ℤ) → a ≤ℤ b → int_le a b ≡ true
 le_true a b less = by (int_le a b) refl
@@ -36,9 +33,6 @@ pub covers_at : (v : Bool) (first past low high a t : ℤ) → first ≤ℤ a �
 covers_at true first past low high a t e f g h = covers_in (rect_at true first past low high) a t e f g h
 covers_at false first past low high a t e f g h = covers_in (rect_at false first past low high) t a g h e f
 
-abbrev StandsIn : Rect → Bool → Stretch → Type 0
-StandsIn r v s = (t : ℤ) × Spans s t × (rect_cover r (pixel_at v s.at t).x (pixel_at v s.at t).y ≡ true)
-
 -- how far apart two stretches can clash
 abbrev pub reach : Clash → ℤ
 reach Meet = pos 0
@@ -46,7 +40,7 @@ reach (Narrow covered least) = least
 reach Touch = pos 0
 
 -- each of two stretches that clash is in the rectangle clash_area the other
-clash_near : (far : ℤ) (clash : Clash) (v : Bool) (p q : Stretch) (pixel : Pix) → IsClash clash → reach clash ≤ℤ far → clash_pixel clash v p q ≡ Some pixel
+pub clash_near : (far : ℤ) (clash : Clash) (v : Bool) (p q : Stretch) (pixel : Pix) → IsClash clash → reach clash ≤ℤ far → clash_pixel clash v p q ≡ Some pixel
     → StandsIn (clash_area far v p) v q × StandsIn (clash_area far v q) v p
 clash_near far Meet v p q pixel limits enough e =
     let m = meeting_of_test p q (some_of (is_meeting p q) _ _ e).0 in
@@ -122,44 +116,6 @@ pub record IsAllNear (fs : List Fragment) (reach : ℤ) (r : Rect) (numbers : Li
 pub contained_below : (fs : List Fragment) (reach : ℤ) (r : Rect) (numbers : List ℕ) (k : ℕ) → IsAllNear fs reach r numbers → Contains numbers k → k < length fs
 contained_below fs reach r numbers k near at = subst (λ m. m < length fs) at.2 (near.below at.0 k at.1)
 
-pub first_clash_is : (fs : List Fragment) (line : ℕ → ℤ) (most far : ℤ) (clash : Clash) (v : Bool) (c : ℕ) (numbers : List ℕ)
-    → IsFragmentList fs → pos 0 ≤ℤ most → KeepNear fs line most → IsClash clash → reach clash ≤ℤ far
-    → IsAllNear fs most (clash_area far v (stretch_at fs line v c)) numbers
-    → IsFirst (ClashesOf fs line clash v c) (first_from (λ k. pair_pixel clash v (stretch_at fs line v c) (stretch_at fs line v k)) None numbers)
-first_clash_is fs line most far clash v c numbers fragments least keep limits enough near =
-    IsFirst-cover (λ p. (k : ℕ) × Contains numbers k × (pair_pixel clash v mine (stretch_at fs line v k) ≡ Some p)) _ _
-    (λ p found. (
-      found.0,
-      contained_below fs most _ numbers found.0 near found.1,
-      (pair_first found.0).is_one p found.2,
-    ))
-    (λ q found.
-    let k = found.0 in
-    let reaches = reaching _ q ((pair_first k).before_all q found.2) in
-    (reaches.0, (k, contained k found.1 q found.2, reaches.1), reaches.2))
-    (IsFirst-list (λ k. pair_pixel clash v mine (stretch_at fs line v k)) numbers)
-  where
-    mine : Stretch
-    mine = stretch_at fs line v c
-
-    pair_first : (k : ℕ) → IsFirst (λ p. (clash_pixel clash v mine (stretch_at fs line v k) ≡ Some p) ⊎ (clash_pixel clash v (stretch_at fs line v k) mine ≡ Some p))
-        (pair_pixel clash v mine (stretch_at fs line v k))
-    pair_first k =
-        IsFirst-earlier _ _ (clash_pixel clash v mine (stretch_at fs line v k)) (clash_pixel clash v (stretch_at fs line v k) mine)
-        (IsFirst-one (clash_pixel clash v mine (stretch_at fs line v k))) (IsFirst-one (clash_pixel clash v (stretch_at fs line v k) mine))
-
-    in_list : (k : ℕ) → k < length fs → StandsIn (clash_area far v mine) v (stretch_at fs line v k) → Contains numbers k
-    in_list k below stands =
-        near.complete k _ _ below stands.2 (stretch_within fs line most v k stands.0 fragments least keep below stands.1)
-
-    contained : (k : ℕ) → k < length fs → (q : Pix)
-        → (clash_pixel clash v mine (stretch_at fs line v k) ≡ Some q) ⊎ (clash_pixel clash v (stretch_at fs line v k) mine ≡ Some q)
-        → Contains numbers k
-    contained k below q h = elim h [
-      | inl first ↦ in_list k below (clash_near far clash v mine (stretch_at fs line v k) q limits enough first).0
-      | inr second ↦ in_list k below (clash_near far clash v (stretch_at fs line v k) mine q limits enough second).1
-    ]
-
 -- stretches that clash are not empty
 pub some_clash : (clash : Clash) (v : Bool) (p q : Stretch) (pixel : Pix) → IsClash clash → clash_pixel clash v p q ≡ Some pixel → ¬ (p.low ≡ p.high)
 some_clash clash v p q pixel limits e empty =
@@ -170,10 +126,3 @@ pub clash_some : (clash : Clash) (v : Bool) (p q : Stretch) (pixel : Pix) → Is
 clash_some clash v p q pixel limits e empty =
     let spans = (clash_near (reach clash) clash v p q pixel limits (omega (arith, ints)) e).0.1 in
     let low = spans.0 in let high = spans.1 in omega (arith, ints)
-
-pub no_clash : (fs : List Fragment) (line : ℕ → ℤ) (clash : Clash) (v : Bool) (c : ℕ) → IsClash clash
-    → (stretch_at fs line v c).low ≡ (stretch_at fs line v c).high → IsFirst (ClashesOf fs line clash v c) None
-no_clash fs line clash v c limits empty = IsFirst-none _ (λ p found. elim found.2 [
-  | inl first ↦ some_clash clash v (stretch_at fs line v c) (stretch_at fs line v found.0) p limits first empty
-  | inr second ↦ clash_some clash v (stretch_at fs line v found.0) (stretch_at fs line v c) p limits second empty
-])

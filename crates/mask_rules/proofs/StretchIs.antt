@@ -1,5 +1,6 @@
 -- What a stretch of a fragment is, by its joins.
-use Rattle.std.proofs.Common.{◌≡◌, ℕ, ◌<◌, ℤ, Bool, true, false, not, List, length, if◌then◌else◌, refl, sym, ◌∙◌, ap, subst}
+use Rattle.std.proofs.Common.{◌≡◌, ℕ, ◌<◌, ℤ, Bool, true, false, not, List, length, if◌then◌else◌, refl, sym, ◌∙◌, ap, subst, arith}
+use Rattle.std.proofs.lemmas.Int.{ints, clamps}
 use Rattle.outline_model.specs.declared.fragment.Join.TheVariants.{Cut, Corner}
 use Rattle.outline_model.specs.declared.fragment.Fragment.{Fragment}
 use Rattle.outline_model.specs.Limits.{IsFragmentList}
@@ -52,6 +53,10 @@ stretch-corner fs line v k j outline below e is =
     ∙ ap (λ (p : Point). record { from = finish fs line k; to = p }) (sym (jog_at_corner fs line k j outline below is))
     ∙ ap (λ (p : Point). record { from = p; to = p }) at)
     ∙ stretch_of-turned v _ _ _
+
+-- a stretch that is walked from a place to itself is empty
+pub walked_nowhere : (v : Bool) (at place : ℤ) → (walked v at place place).low ≡ (walked v at place place).high
+walked_nowhere v at place = omega (arith, ints, clamps)
 
 pub start_within : (fs : List Fragment) (k : ℕ) → IsFragmentList fs → k < length fs → IsWithin 1048000 (start_place (fragment_at fs k))
 start_within fs k fragments below = by (is_rising (side_of fs k))

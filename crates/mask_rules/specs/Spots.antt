@@ -19,6 +19,11 @@ is_inside band opens s =
 abbrev pub spot_pixel : Bool → Rect → Bool → Stretch → Option Pix
 spot_pixel v band opens s = if is_inside band opens s then Some (pixel_at v s.at (int_max s.low band.y0)) else None
 
+-- the same, of a stretch, if there is one
+abbrev pub spot_of : Bool → Rect → Bool → Option Stretch → Option Pix
+spot_of v band opens None = None
+spot_of v band opens (Some s) = spot_pixel v band opens s
+
 -- a pixel of the band after a stretch that has the inside there, or the outside
 abbrev pub SpotsAt : List Fragment → (ℕ → ℤ) → Bool → Rect → Bool → Pix → Type 0
 SpotsAt fs line v band opens p = (k : ℕ) × (k < length fs) × (spot_pixel v band opens (stretch_at fs line v k) ≡ Some p)

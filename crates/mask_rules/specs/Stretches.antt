@@ -4,6 +4,7 @@ use Rattle.std.specs.Int.{int_min, int_max}
 use Rattle.outline_model.specs.declared.fragment.Fragment.{Fragment}
 use Rattle.opc_base.specs.declared.plane.Rect.{Rect}
 use Rattle.opc_base.specs.declared.plane.Pix.{Pix}
+use Rattle.opc_base.specs.Plane.{rect_cover}
 use Rattle.outline_model.specs.Edges.{seen}
 use Rattle.outline_model.specs.Outline.{Piece, vertical_piece, horizontal_piece}
 use Rattle.mask_rules.specs.declared.stretch.Stretch.{Stretch}
@@ -36,6 +37,15 @@ pixel_at false a t = record { x = t; y = a }
 abbrev pub rect_at : Bool → ℤ → ℤ → ℤ → ℤ → Rect
 rect_at true first past low high = record { x0 = first; y0 = low; x1 = past; y1 = high }
 rect_at false first past low high = record { x0 = low; y0 = first; x1 = high; y1 = past }
+
+-- the rectangle has pixels at this place across
+abbrev pub IsAcross : Bool → Rect → ℤ → Type 0
+IsAcross true r a = (r.x0 ≤ℤ a) × (a <ℤ r.x1)
+IsAcross false r a = (r.y0 ≤ℤ a) × (a <ℤ r.y1)
+
+-- the rectangle has a pixel that is after the stretch
+abbrev pub StandsIn : Rect → Bool → Stretch → Type 0
+StandsIn r v s = (t : ℤ) × Spans s t × (rect_cover r (pixel_at v s.at t).x (pixel_at v s.at t).y ≡ true)
 
 -- n stretches of each direction are where the set changes
 pub record IsDrawn (inside : ℤ → ℤ → Bool) (n : ℕ) (stretch : Bool → ℕ → Stretch) : Type 0 where

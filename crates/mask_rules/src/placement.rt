@@ -1,15 +1,16 @@
 //! Fragments at their offsets, of which one is given apart, so that a move is judged without a list of its own.
 
-ghost use Rattle.std.specs.Prelude.{◌≡◌, ◌<◌, ◌↔◌, ◌<ℤ◌, IsTrue, length, not};
+ghost use Rattle.std.specs.Prelude.{◌≡◌, ◌<◌, ◌↔◌, ◌<ℤ◌, IfNone, IfSome, IsTrue, length, not};
 ghost use Rattle.outline_model.specs.Limits.{IsFragmentList};
 ghost use Rattle.outline_model.specs.Ranges.{IsWithin};
 ghost use Rattle.outline_model.specs.Outline.{end_at, high_end, is_vertical, joined, low_end, side_of};
 ghost use Rattle.mask_rules.specs.Limits.{IsStretchWithin};
 ghost use Rattle.mask_rules.specs.Placements.{IsPlacement, line_of};
-ghost use Rattle.mask_rules.specs.Stretches.{stretch_at};
+ghost use Rattle.mask_rules.specs.Stretches.{IsAcross, StandsIn, stretch_at};
 
-use crate::stretch::{Stretch, walk};
+use crate::stretch::{Stretch, is_across, walk};
 use fragment::{Fragments, Join};
+use opc_base::Rect;
 use outline_model::is_vertical;
 
 /// Fragments at their offsets, but for one of them, which has another offset.
@@ -119,5 +120,41 @@ fn jog(outline: &Placement, vertical: bool, k: u32) -> Stretch
             let at = line(outline, j);
             walk(vertical, at, from, from)
         }
+    }
+}
+
+/// Where fragment `k`'s stretch of one direction lies across it. `None` where there is none: a corner has no jog.
+fn place_across(outline: &Placement, vertical: bool, k: u32) -> Option<i32>
+    requires placement { IsPlacement outline.now }
+    requires k { k < length outline.now.fragments.now }
+    ensures place { IfSome result (λ at. (stretch_at outline.now.fragments.now (line_of outline.now) vertical k).at ≡ at) }
+    ensures none { IfNone result ((stretch_at outline.now.fragments.now (line_of outline.now) vertical k).low
+        ≡ (stretch_at outline.now.fragments.now (line_of outline.now) vertical k).high) }
+{
+    let fragment = outline.fragments.get(k);
+    if is_vertical(fragment.side) == vertical {
+        return Some(line(outline, k));
+    }
+    let (join, place) = fragment.finish();
+    match join {
+        Join::Cut(_) => Some(place),
+        Join::Corner(_) => None,
+    }
+}
+
+/// Fragment `k`'s stretch of one direction, if its place across it is one of the rectangle's. Where it is not, the ends of
+/// the stretch are not looked for.
+pub fn stretch_across(outline: &Placement, vertical: bool, rect: &Rect, k: u32) -> Option<Stretch>
+    requires placement { IsPlacement outline.now }
+    requires k { k < length outline.now.fragments.now }
+    ensures stretch { IfSome result (λ s. s ≡ stretch_at outline.now.fragments.now (line_of outline.now) vertical k) }
+    ensures within { IfSome result IsStretchWithin }
+    ensures none { IfNone result (¬ StandsIn rect.now vertical (stretch_at outline.now.fragments.now (line_of outline.now) vertical k)) }
+{
+    let at = place_across(outline, vertical, k)?;
+    if is_across(vertical, rect, at) {
+        Some(stretch(outline, vertical, k))
+    } else {
+        None
     }
 }

@@ -4,12 +4,12 @@ ghost use Rattle.std.specs.Prelude.{◌≡◌, ◌<◌, ◌<ℤ◌, true, false,
 ghost use Rattle.outline_model.specs.Limits.{IsFragmentList};
 ghost use Rattle.mask_rules.specs.Limits.{IsMaskRect};
 ghost use Rattle.mask_rules.specs.Placements.{IsPlacement, line_of};
-ghost use Rattle.mask_rules.specs.Spots.{AreFirstSpots, is_ahead, is_inside, lowest, spot_pixel};
+ghost use Rattle.mask_rules.specs.Spots.{AreFirstSpots, is_ahead, is_inside, lowest, spot_of, spot_pixel};
 ghost use Rattle.mask_rules.specs.Stretches.{stretch_at};
 
 use crate::clash::of_colour;
 use crate::first::{comes_before, earlier};
-use crate::placement::{Placement, stretch};
+use crate::placement::{Placement, stretch_across};
 use crate::stretch::{Stretch, pixel_at};
 use fragment::Near;
 use opc_base::{Pix, Rect};
@@ -35,6 +35,16 @@ fn spot_pixel(vertical: bool, band: &Rect, opens: bool, stretch: Stretch) -> Opt
     }
 }
 
+/// The first pixel of the band after the stretch, if there is one.
+fn spot_of(vertical: bool, band: &Rect, opens: bool, stretch: Option<Stretch>) -> Option<Pix>
+    ensures { result ≡ spot_of vertical band.now opens stretch }
+{
+    match stretch {
+        Some(found) => spot_pixel(vertical, band, opens, found),
+        None => None,
+    }
+}
+
 /// The first pixels of a rectangle after stretches inside it that have the inside there, or the outside.
 #[derive(Clone, Copy)]
 pub struct FirstSpots {
@@ -48,7 +58,7 @@ pub struct FirstSpots {
     pub ends: Option<Pix>,
 }
 
-fn choose(vertical: bool, upright: Stretch, level: Stretch) -> Stretch
+fn choose(vertical: bool, upright: Option<Stretch>, level: Option<Stretch>) -> Option<Stretch>
     ensures { result ≡ (if vertical then upright else level) }
 {
     if vertical { upright } else { level }
@@ -58,21 +68,23 @@ fn choose(vertical: bool, upright: Stretch, level: Stretch) -> Stretch
 fn spots_of(outline: &Placement, vertical: bool, rect: &Rect, opens: bool, k: u32) -> FirstSpots
     requires placement { IsPlacement outline.now }
     requires within { IsMaskRect rect.now }
+    requires wide { rect.now.x0 <ℤ rect.now.x1 }
+    requires high { rect.now.y0 <ℤ rect.now.y1 }
     requires k { k < length outline.now.fragments.now }
     ensures across { result.across ≡ spot_pixel true rect.now opens (stretch_at outline.now.fragments.now (line_of outline.now) true k) }
     ensures along { result.along ≡ spot_pixel false (lowest false rect.now) opens (stretch_at outline.now.fragments.now (line_of outline.now) false k) }
     ensures begins { result.begins ≡ spot_pixel vertical (lowest vertical rect.now) opens (stretch_at outline.now.fragments.now (line_of outline.now) vertical k) }
     ensures ends { result.ends ≡ spot_pixel vertical (lowest vertical rect.now) (not opens) (stretch_at outline.now.fragments.now (line_of outline.now) vertical k) }
 {
-    let upright = stretch(outline, true, k);
-    let level = stretch(outline, false, k);
+    let upright = stretch_across(outline, true, rect, k);
+    let level = stretch_across(outline, false, rect, k);
     let mine = choose(vertical, upright, level);
     let left = lowest(false, rect);
     let band = lowest(vertical, rect);
-    let across = spot_pixel(true, rect, opens, upright);
-    let along = spot_pixel(false, &left, opens, level);
-    let begins = spot_pixel(vertical, &band, opens, mine);
-    let ends = spot_pixel(vertical, &band, !opens, mine);
+    let across = spot_of(true, rect, opens, upright);
+    let along = spot_of(false, &left, opens, level);
+    let begins = spot_of(vertical, &band, opens, mine);
+    let ends = spot_of(vertical, &band, !opens, mine);
     FirstSpots {
         across,
         along,

@@ -1,8 +1,8 @@
 //! What a fragment gives to the outline in one direction.
 
-ghost use Rattle.std.specs.Prelude.{◌≡◌};
+ghost use Rattle.std.specs.Prelude.{◌≡◌, ◌↔◌, IsTrue};
 ghost use Rattle.outline_model.specs.Ranges.{IsWithin};
-ghost use Rattle.mask_rules.specs.Stretches.{pixel_at, rect_at, walked};
+ghost use Rattle.mask_rules.specs.Stretches.{IsAcross, pixel_at, rect_at, walked};
 ghost use Rattle.mask_rules.specs.Limits.{IsStretchWithin};
 
 use opc_base::{Pix, Rect};
@@ -71,5 +71,16 @@ pub fn rect_at(vertical: bool, first: i32, past: i32, low: i32, high: i32) -> Re
             x1: high,
             y1: past,
         }
+    }
+}
+
+/// Whether a place across the stretches of one direction is one of the rectangle's.
+pub fn is_across(vertical: bool, rect: &Rect, place: i32) -> bool
+    ensures { IsTrue result ↔ IsAcross vertical rect.now place }
+{
+    if vertical {
+        rect.x0 <= place && place < rect.x1
+    } else {
+        rect.y0 <= place && place < rect.y1
     }
 }
