@@ -1,13 +1,11 @@
 -- The files and the numbers of bars call for one answer, and it looks no further into the files than one byte past their
 -- limits.
-use Rattle.std.proofs.Common.{◌≡◌, ◌↔◌, ◌⊎◌, inl, inr, ℕ, ◌<◌, ◌≤◌, ℤ, pos, ◌≤ℤ◌, ◌<ℤ◌, Bool, true, false, IsTrue, List, length, take, get_or, refl, ap, sym, ◌∙◌, subst, arith}
+use Rattle.std.proofs.Common.{◌≡◌, ◌↔◌, inl, inr, ℕ, ◌<◌, ℤ, Bool, true, false, IsTrue, List, length, take, get_or, refl, ap, sym, ◌∙◌, subst, arith}
 use Rattle.std.specs.Prelude.{Result, Ok, Err}
 use Rattle.std.proofs.lemmas.Int.{ints}
 use Rattle.std.proofs.lemmas.List.{ext_get_or}
 use Rattle.gds_writer.specs.MaskFile.{mask_file}
 use Rattle.opc_base.proofs.CanonicalIsUnique.{canonical_is_unique}
-use Rattle.opc_base.specs.Plane.{PixelSet}
-use Rattle.opc_base.specs.declared.kernels.KernelSet.{KernelSet}
 use Rattle.opc_base.specs.declared.moves.RoundSummary.{RoundSummary}
 use Rattle.opc_base.specs.declared.plane.Rect.{Rect}
 use Rattle.opc_base.specs.declared.rules.MaskRules.{MaskRules}
@@ -30,7 +28,7 @@ use Rattle.opc_engine.specs.BarStages.{BarSubject, BarsGive, IsBadKey, NumbersSu
 use Rattle.opc_engine.specs.BarTable.{bar_end, bar_table}
 use Rattle.opc_engine.specs.Corrections.{IsWritten}
 use Rattle.opc_engine.specs.ErrorTable.{round_lines}
-use Rattle.opc_engine.specs.Prepare.{LayoutPrepares, Pattern, PreparesBy, RulesGive, Subject, TargetKeeps}
+use Rattle.opc_engine.specs.Prepare.{LayoutPrepares, Pattern, PreparesBy, Subject}
 use Rattle.opc_engine.specs.Runs.{at_offsets}
 use Rattle.opc_engine.proofs.CorrectionLaws.{answer_one, cut_one, kept, prepares_by_of_cut, prepares_by_one, rules_of_cut, rules_one}
 use Rattle.opc_engine.proofs.RunLaws.{run_by_one}

@@ -1,23 +1,18 @@
 -- What each stage of `prepare_bars` says of the whole.
-use Rattle.std.proofs.Common.{◌≡◌, inl, inr, ℕ, ◌≤◌, ◌+◌, ℤ, Bool, ◌||◌, List, All, length, get_or, false, refl, sym, subst, arith}
+use Rattle.std.proofs.Common.{◌≡◌, inl, inr, ℕ, ℤ, ◌||◌, List, refl, sym, subst}
 use Rattle.std.proofs.Math.Path.{fun_ext}
-use Rattle.std.specs.Prelude.{◌⊎◌, Result, Ok, Err}
-use Rattle.opc_base.specs.Plane.{IsRectWithin, PixelSet, cover}
+use Rattle.std.specs.Prelude.{◌⊎◌, Ok, Err}
+use Rattle.opc_base.specs.Plane.{PixelSet, cover}
 use Rattle.opc_base.specs.declared.plane.Rect.{Rect}
-use Rattle.opc_base.specs.declared.rules.CutRules.{CutRules}
-use Rattle.opc_base.specs.declared.rules.MaskRules.{MaskRules}
 use Rattle.opc_base.specs.declared.rules.Rules.{Rules}
 use Rattle.assist_bars.specs.Bars.{AreBars, SuitMask}
 use Rattle.assist_bars.specs.declared.bar_rules.BarRules.{BarRules}
-use Rattle.mask_rules.specs.TargetRules.{KeepsTarget}
-use Rattle.outline_model.specs.declared.fragment.Fragment.{Fragment}
-use Rattle.outline_model.specs.Fragmentation.{AreFragments}
 use Rattle.opc_engine.specs.declared.bar_prepare.BarPrepared.{BarPrepared}
 use Rattle.opc_engine.specs.declared.fault.EngineFault.{EngineFault}
 use Rattle.opc_engine.specs.declared.fault.EngineFault.TheVariants as engine
 use Rattle.opc_engine.specs.declared.ready.Ready.{Ready}
 use Rattle.opc_engine.specs.BarReady.{HasBars, WholeFails, bar_subject_of}
-use Rattle.opc_engine.specs.BarStages.{NumbersSuit, PreparesBars, WholeGives, with_bars}
+use Rattle.opc_engine.specs.BarStages.{NumbersSuit, PreparesBars, with_bars}
 use Rattle.opc_engine.specs.Prepare.{CutGives, PreparesBy, RulesGive, Subject}
 use Rattle.opc_engine.specs.Ready.{subject_of}
 

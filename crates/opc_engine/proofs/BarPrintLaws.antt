@@ -1,5 +1,5 @@
 -- Rectangles of which a pixel prints, band by band and window by window.
-use Rattle.std.proofs.Common.{◌≡◌, ◌⊎◌, ◌↔◌, inl, inr, ℕ, zero, suc, ◌+◌, ◌*◌, ◌<◌, ◌≤◌, ℤ, pos, negsuc, ◌-ℤ◌, ◌+ℤ◌, ◌≤ℤ◌, ◌<ℤ◌, unsigned_abs, Bool, true, false, IsTrue, nat_lt, ◌&&◌, ◌||◌, List, [], ◌∷◌, ◌++◌, length, get_or, refl, sym, ◌∙◌, ap, subst, arith}
+use Rattle.std.proofs.Common.{◌≡◌, ◌↔◌, ℕ, ◌+◌, ◌*◌, ◌<◌, ◌≤◌, ℤ, pos, ◌-ℤ◌, ◌+ℤ◌, ◌≤ℤ◌, ◌<ℤ◌, unsigned_abs, Bool, true, false, IsTrue, nat_lt, ◌&&◌, ◌||◌, List, [], ◌∷◌, ◌++◌, length, get_or, refl, sym, ◌∙◌, ap, subst, arith}
 use Rattle.std.proofs.lemmas.Int.{ints, by_lt_z}
 use Rattle.std.proofs.Common.{⊎_elim}
 use Rattle.std.proofs.lemmas.Bool.{cases_lt}
@@ -12,8 +12,7 @@ use Rattle.opc_base.specs.Plane.{IsRectWithin, cover, rect_cover}
 use Rattle.opc_base.specs.declared.plane.Rect.{Rect}
 use Rattle.print_check.specs.Printed.{HasFewPixels, printed_in, prints}
 use Rattle.opc_engine.specs.declared.bar_print.Light.{Light}
-use Rattle.opc_engine.specs.BarImages.{AreFlags, HasPrinted, IsInBand, IsSmallWindow, band_of, window_of}
-use Rattle.opc_engine.specs.BarRuns.{bar_at}
+use Rattle.opc_engine.specs.BarImages.{HasPrinted, IsInBand, IsSmallWindow, band_of, window_of}
 
 -- nothing of the rectangle below this row prints, or nothing left of this column
 pub record NoneBelow (l : Light) (r : Rect) (y0 : ℤ) : Type 0 where

@@ -1,5 +1,5 @@
 -- Runs in which only the fragments of the target move.
-use Rattle.std.proofs.Common.{◌≡◌, ◌≢◌, ◌⊎◌, inl, inr, ℕ, zero, suc, ◌+◌, ◌-◌, ◌*◌, ◌/◌, ◌<◌, ◌≤◌, ℤ, pos, neg_ℤ, ◌-ℤ◌, ◌≤ℤ◌, Bool, true, false, if◌then◌else◌, List, [], ◌∷◌, ◌++◌, length, replicate, get_or, get_or-set_other, unsigned_abs, add-one, refl, sym, ◌∙◌, ap, ap₂, subst, arith}
+use Rattle.std.proofs.Common.{◌≡◌, inl, inr, ℕ, zero, suc, ◌+◌, ◌*◌, ◌<◌, ◌≤◌, ℤ, pos, neg_ℤ, ◌-ℤ◌, ◌≤ℤ◌, Bool, true, false, if◌then◌else◌, List, [], ◌∷◌, ◌++◌, length, get_or, get_or-set_other, unsigned_abs, add-one, refl, sym, ◌∙◌, ap, ap₂, subst, arith}
 use Rattle.std.proofs.lemmas.Bool.Decides.{eqb_tells}
 use Rattle.std.proofs.lemmas.Int.{ints}
 use Rattle.mover.specs.Wish.{clamped, nearest, wanted, wish_of}
@@ -26,9 +26,8 @@ use Rattle.opc_engine.specs.BarRuns.{AreStill, IsBarRun, own_error}
 use Rattle.opc_engine.specs.BarStages.{BarSubject}
 use Rattle.opc_engine.specs.BarTable.{totals_by}
 use Rattle.opc_engine.specs.Prepare.{Subject}
-use Rattle.opc_engine.specs.Runs.{AreRoundsBy, Counted, IsRoundBy, IsRunBy, at_offsets, is_settled_by, unmoved}
+use Rattle.opc_engine.specs.Runs.{AreRoundsBy, Counted, IsRoundBy, at_offsets, is_settled_by}
 use Rattle.opc_engine.specs.Standing.{IsOver}
-use Rattle.opc_engine.specs.ErrorTable.{round_lines}
 use Rattle.opc_engine.proofs.StandingLaws.{round_lines-more, rounds_by_count}
 
 -- ---- a fragment without an error stays

@@ -1,5 +1,5 @@
 -- The lines of a table with bars, and what is told of a session.
-use Rattle.std.proofs.Common.{◌≡◌, ◌↔◌, ℕ, ◌+◌, ◌<◌, ◌≤ℤ◌, ℤ, pos, Bool, true, false, IsTrue, int_le, List, [], ◌++◌, length, get_or, refl, ap, sym, subst, ◌∙◌, arith}
+use Rattle.std.proofs.Common.{◌≡◌, ◌↔◌, ℕ, ◌≤ℤ◌, ℤ, Bool, true, false, int_le, List, [], ◌++◌, length, get_or, refl, ap, sym, subst, ◌∙◌, arith}
 use Rattle.std.proofs.lemmas.Int.{ints}
 use Rattle.std.specs.Prelude.{Result, Ok, Err, IfOk}
 use Rattle.error_table.specs.Table.{counts_line, end_line}
@@ -24,7 +24,7 @@ use Rattle.opc_engine.specs.BarImages.{AreFlags, HasPrinted}
 use Rattle.opc_engine.specs.BarReady.{CanAssist, HasBarRun, IsBarWritten, bar_subject_of}
 use Rattle.opc_engine.specs.BarRuns.{ArePrinted, Prints, bar_at, own_error}
 use Rattle.opc_engine.specs.BarTable.{assist_line, bar_end, bar_head, bar_line, bar_lines, bar_table, totals_by}
-use Rattle.opc_engine.specs.ErrorTable.{round_lines, texts_of}
+use Rattle.opc_engine.specs.ErrorTable.{texts_of}
 use Rattle.opc_engine.specs.Runs.{at_offsets, is_settled_by}
 use Rattle.opc_engine.specs.Standing.{IsOver}
 use Rattle.opc_engine.proofs.BarRunLaws.{bar_over_is, bars_are_still}

@@ -1,11 +1,9 @@
 -- The files of a correction call for one answer, and it looks no further into them than one byte past their limits.
-use Rattle.std.proofs.Common.{◌≡◌, ℕ, ◌+◌, ◌<◌, ◌≤◌, ◌⊎◌, inl, inr, List, [], length, map, take, min, Option, Some, None, refl, ap, sym, ◌∙◌, subst, arith}
+use Rattle.std.proofs.Common.{◌≡◌, ℕ, ◌<◌, ◌≤◌, inl, inr, List, [], length, map, take, min, Option, Some, None, refl, ap, sym, ◌∙◌, subst, arith}
 use Rattle.std.specs.Prelude.{Result, Ok, Err, nat_lt}
 use Rattle.std.proofs.lemmas.List.{length-map, length-take, take_all}
 use Rattle.opc_base.proofs.CanonicalIsUnique.{canonical_is_unique}
 use Rattle.opc_base.specs.Plane.{PixelSet}
-use Rattle.opc_base.specs.declared.moves.Move.{Move}
-use Rattle.opc_base.specs.declared.plane.Pix.{Pix}
 use Rattle.opc_base.specs.declared.broken.Place.TheVariants.{Pixel}
 use Rattle.opc_base.specs.declared.broken.RuleName.TheVariants.{M3}
 use Rattle.opc_base.specs.declared.kernels.KernelSet.{KernelSet}
@@ -30,17 +28,14 @@ use Rattle.opc_engine.specs.declared.answer.Answer.{Answer}
 use Rattle.opc_engine.specs.declared.fault.EngineFault.{EngineFault}
 use Rattle.opc_engine.specs.declared.fault.EngineFault.TheVariants as fault
 use Rattle.opc_engine.specs.declared.limits.TheConstants.{MAX_RULES, MAX_KERNELS, MAX_LAYOUT}
-use Rattle.opc_engine.specs.Corrections.{Corrects, IsTabled, IsWritten, SimulateGives, Simulates}
-use Rattle.opc_engine.specs.ErrorTable.{last_line, round_lines, table_text}
-use Rattle.opc_engine.specs.LayoutTarget.{IsRead, IsUnread, StructuresGive}
+use Rattle.opc_engine.specs.Corrections.{IsTabled, SimulateGives, Simulates}
+use Rattle.opc_engine.specs.ErrorTable.{last_line, table_text}
+use Rattle.opc_engine.specs.LayoutTarget.{IsRead}
 use Rattle.opc_engine.specs.Prepare.{CutGives, KernelsGive, LayoutPrepares, LibraryGives, Pattern, Prepares, PreparesBy, RulesGive, RulesOrFault, Subject, TargetKeeps}
-use Rattle.opc_engine.specs.Probe.{kernel_result}
 use Rattle.opc_engine.specs.Runs.{at_offsets, unmoved}
-use Rattle.opc_engine.specs.Stages.{Then}
 use Rattle.opc_engine.proofs.FirstLaws.{target_broken_one}
 use Rattle.opc_engine.proofs.ProbeLaws.{kernels_cut, not_unread, structures_one, unread_of_cut, unread_one}
 use Rattle.rule_file.proofs.RulesAreOne.{rules_are_one}
-use Rattle.opc_engine.proofs.RunLaws.{run_one}
 use Rattle.opc_engine.proofs.StageLaws.{IsOne, not_fault, then_map, then_one}
 
 -- ---- each stage gives one result

@@ -17,7 +17,6 @@ pub mod TrialInputLaws
 pub mod SharingLaws
 pub mod WrittenLaws
 pub mod MoveListLaws
-pub mod MadeLaws
 pub mod WindowLaws
 pub mod CheckLaws
 pub mod PolygonLaws

@@ -1,5 +1,4 @@
 -- A wrapped fault is never the lower want of memory.
-use Rattle.std.proofs.Common.{◌≡◌}
 use Rattle.kernel_file.specs.declared.fault.KernelFault.{KernelFault}
 use Rattle.kernel_file.specs.declared.fault.KernelFault.TheVariants as kernel
 use Rattle.gds_model.specs.declared.layout_fault.LayoutFault.{LayoutFault}

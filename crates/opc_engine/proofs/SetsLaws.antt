@@ -13,7 +13,7 @@ use Rattle.opc_engine.specs.PrepareSets.{PreparesSets, SetsGive, WindowSubject}
 use Rattle.opc_engine.specs.Probe.{kernel_result}
 use Rattle.opc_engine.specs.Stages.{Then}
 use Rattle.opc_engine.proofs.CorrectionLaws.{kernels_of_cut, layout_of_cut, layout_one, rules_of_cut, rules_one}
-use Rattle.opc_engine.proofs.StageLaws.{IsOne, failed, not_fault, same_value, then_map, then_one}
+use Rattle.opc_engine.proofs.StageLaws.{IsOne, not_fault, same_value, then_map, then_one}
 
 -- one file more has its kernels
 sets_before : (files : List (List ℕ)) (file : List ℕ) (sets : List KernelSet) (set : KernelSet) → SetsGive files (Ok sets) → KernelsGive file (Ok set)

@@ -1,5 +1,5 @@
 -- No answer depends on the side of tiles or on the number of workers.
-use Rattle.std.proofs.Common.{◌≡◌, ◌⊎◌, inl, inr, ℕ, zero, suc, ℤ, pos, List, [], length, refl, sym, ap, ◌∙◌, subst}
+use Rattle.std.proofs.Common.{◌≡◌, inl, inr, ℕ, zero, suc, ℤ, pos, List, [], length, refl, sym, ap, ◌∙◌, subst}
 use Rattle.std.specs.Prelude.{Option, Some, None, IsSomeAnd, Result, Ok, Err}
 use Rattle.opc_base.specs.declared.moves.Move.{Move}
 use Rattle.opc_base.specs.declared.moves.RoundSummary.{RoundSummary}

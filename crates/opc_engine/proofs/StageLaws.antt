@@ -1,8 +1,7 @@
 -- Stages one after the other: what refuses, what goes on, and that they give one result.
-use Rattle.std.proofs.Common.{◌≡◌, inl, inr, refl, ap, sym, ◌∙◌, subst}
-use Rattle.std.specs.Prelude.{◌⊎◌, Result, Ok, Err}
+use Rattle.std.proofs.Common.{◌≡◌, inl, inr, ap, sym, ◌∙◌, subst}
+use Rattle.std.specs.Prelude.{Result, Ok, Err}
 use Rattle.opc_engine.specs.declared.fault.EngineFault.{EngineFault}
-use Rattle.opc_engine.specs.declared.fault.EngineFault.TheVariants as fault
 use Rattle.opc_engine.specs.Stages.{Then}
 pub use Rattle.opc_engine.specs.Stages.{IsOne}
 

@@ -1,20 +1,15 @@
 -- Sessions over what is ready: what rounds and moves leave, and their lines.
-use Rattle.std.proofs.Common.{◌≡◌, ◌⊎◌, inl, inr, ℕ, zero, suc, ◌+◌, ◌<◌, ◌≤◌, ℤ, Bool, true, false, List, [], ◌∷◌, ◌++◌, length, get_or, append_assoc, length-append, add-one, refl, ap, ap₂, sym, ◌∙◌, subst, arith}
+use Rattle.std.proofs.Common.{◌≡◌, inl, inr, ℕ, zero, suc, ◌+◌, ◌≤◌, ℤ, Bool, true, false, List, [], ◌∷◌, ◌++◌, length, append_assoc, length-append, add-one, refl, ap, ap₂, sym, ◌∙◌, subst, arith}
 use Rattle.std.proofs.lemmas.Grind.{common_steps}
-use Rattle.error_table.specs.Table.{move_line, round_line}
-use Rattle.opc_base.specs.declared.moves.Move.{Move}
-use Rattle.opc_base.specs.declared.moves.Moved.{Moved}
-use Rattle.opc_base.specs.declared.moves.Moved.TheVariants.{Done}
+use Rattle.error_table.specs.Table.{round_line}
 use Rattle.opc_base.specs.declared.moves.RoundSummary.{RoundSummary}
-use Rattle.opc_base.specs.declared.moves.Swept.{Swept}
-use Rattle.opc_session.specs.Moves.{AreMoved, answer_at, move_at, sweeps_made}
-use Rattle.opc_session.specs.Sessions.{MakesMove, MakesRound, SessionValue, error_at}
+use Rattle.opc_session.specs.Sessions.{MakesRound, SessionValue, error_at}
 use Rattle.opc_session.specs.Rounds.{Summarizes, TakeSteps}
 use Rattle.opc_engine.specs.declared.ready.Ready.{Ready}
-use Rattle.opc_engine.specs.ErrorTable.{round_lines, texts_of}
+use Rattle.opc_engine.specs.ErrorTable.{round_lines}
 use Rattle.opc_engine.specs.Prepare.{Subject}
 use Rattle.opc_engine.specs.Ready.{subject_of}
-use Rattle.opc_engine.specs.Runs.{AreRoundsBy, Counted, IsRound, IsRun, at_offsets, is_settled}
+use Rattle.opc_engine.specs.Runs.{AreRoundsBy, Counted, IsRound, at_offsets, is_settled}
 use Rattle.opc_engine.specs.Standing.{HasRounds, HasRun, IsOver}
 
 -- ---- a session by its offsets

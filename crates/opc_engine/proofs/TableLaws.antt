@@ -1,5 +1,5 @@
 -- The lines of a table, as they are put.
-use Rattle.std.proofs.Common.{◌≡◌, ℕ, ℤ, pos, Bool, List, [], ◌++◌, length, replicate, refl, ap, ap₂, sym, subst, ◌∙◌, append_assoc}
+use Rattle.std.proofs.Common.{◌≡◌, ℕ, ℤ, pos, Bool, List, [], ◌++◌, length, replicate, refl, ap, sym, subst, ◌∙◌}
 use Rattle.std.proofs.Math.Path.{fun_ext}
 use Rattle.error_table.specs.Table.{counts_line, end_line, fragment_line, version_line}
 use Rattle.opc_base.specs.Canonical.{IsCanonical}

@@ -1,5 +1,5 @@
 -- The files of `trial`, as they are made.
-use Rattle.std.proofs.Common.{◌≡◌, ℕ, ◌+◌, ◌*◌, ◌/◌, ◌%◌, ◌^◌, ◌<◌, ◌≤◌, lit<, ℤ, pos, negsuc, ◌*ℤ◌, unsigned_abs, FitsSigned, w16, to_z, of_z, List, [], ◌∷◌, ◌++◌, length, map, take, get_or, add-one, refl, ap, ap₂, sym, ◌∙◌, arith}
+use Rattle.std.proofs.Common.{◌≡◌, ℕ, ◌+◌, ◌*◌, ◌/◌, ◌%◌, ◌<◌, lit<, ℤ, pos, negsuc, ◌*ℤ◌, FitsSigned, w16, to_z, of_z, List, [], ◌∷◌, ◌++◌, length, map, take, get_or, add-one, refl, ap, ap₂, sym, ◌∙◌, arith}
 use Rattle.std.specs.List.{flat_map}
 use Rattle.std.proofs.lemmas.Int.{fits_signed_mul, ints, to_z-of_z}
 use Rattle.std.proofs.lemmas.List.{map-append, take_more}
@@ -11,7 +11,7 @@ use Rattle.opc_base.specs.declared.rules.OutPick.{OutPick}
 use Rattle.gds_records.specs.declared.library_head.Head.{Head}
 use Rattle.gds_writer.specs.MaskFile.{around, bytes_of, closing, opening, outline_file, padded, point_bytes, record_of}
 use Rattle.gds_writer.proofs.Said.{boundaries-around}
-use Rattle.opc_engine.specs.TrialInput.{a_of, b_of, cell, cells, height, kernel_bytes, peak, rect_in, seed_of, slope, trial_kernels, trial_layout, trial_name}
+use Rattle.opc_engine.specs.TrialInput.{cell, cells, height, kernel_bytes, peak, rect_in, seed_of, slope, trial_kernels, trial_layout, trial_name}
 use Rattle.opc_engine.specs.TrialWritten.{trial_head}
 use Rattle.gds_model.specs.declared.record_kind.RecordKind.TheVariants.{Header, BgnLib, LibName, Units, BgnStr, StrName, Boundary, Layer, Datatype, Xy, EndEl}
 use Rattle.std.specs.Int.{to_be_bytes}

@@ -1,18 +1,19 @@
 -- Answers with a mask file, after a run and after moves.
-use Rattle.std.proofs.Common.{◌≡◌, ◌⊎◌, inl, inr, ℕ, ℤ, List, length, refl, sym, subst, ap, ◌∙◌}
+use Rattle.std.proofs.Common.{◌≡◌, ◌⊎◌, inl, inr, ℕ, List, length, refl, sym, subst, ap, ◌∙◌}
 use Rattle.std.specs.Prelude.{Result, Ok, Err, IfOk}
 use Rattle.opc_base.specs.declared.fault.NoMemory.{NoMemory}
 use Rattle.opc_session.specs.Sessions.{SessionValue}
 use Rattle.opc_base.specs.declared.moves.Move.{Move}
+use Rattle.opc_base.specs.declared.moves.Moved.{Moved}
 use Rattle.opc_engine.specs.Corrections.{Corrects, IsTabled, Moves, PreparesMoves, moves_result}
 use Rattle.opc_engine.specs.Prepare.{Prepares, Subject}
 use Rattle.opc_engine.specs.declared.fault.EngineFault.{EngineFault}
 use Rattle.opc_engine.specs.declared.fault.EngineFault.TheVariants as engine
 use Rattle.opc_engine.specs.ErrorTable.{move_lines, round_lines}
 use Rattle.opc_engine.specs.Ready.{subject_of}
-use Rattle.opc_engine.specs.Runs.{at_offsets}
-use Rattle.opc_engine.specs.Standing.{HasMoved, HasRun, IsOver}
-use Rattle.opc_engine.specs.Written.{IsCorrected, IsCorrection, IsMovedBy, IsTried, IsWrittenFor}
+use Rattle.opc_engine.specs.Runs.{IsMovesRun, at_offsets}
+use Rattle.opc_engine.specs.Standing.{HasRun, IsOver}
+use Rattle.opc_engine.specs.Written.{IsCorrected, IsCorrection, IsMovedBy, IsWrittenFor}
 use Rattle.opc_engine.specs.declared.answer.Answer.{Answer}
 use Rattle.opc_engine.specs.declared.ready.Ready.{Ready}
 use Rattle.opc_engine.proofs.StandingLaws.{over_is}
@@ -52,21 +53,21 @@ corrects_is layout kernels rules p answer accepted c = record {
   written = c.written;
 }
 
-moved : (p : Ready) (moves : List Move) (s : SessionValue) (lines between : List ℕ) (answer : Answer) → IsOver p s → HasMoved p moves s lines → between ≡ lines
-    → IsWrittenFor p s between answer → IsMovedBy p moves answer
-moved p moves s lines between answer over run is w = record {
+moved : (p : Ready) (moves : List Move) (answers : List Moved) (s : SessionValue) (between : List ℕ) (answer : Answer) → IsOver p s → IsMovesRun (subject_of p) moves s.offsets answers
+    → between ≡ move_lines moves answers → IsWrittenFor p s between answer → IsMovedBy p moves answer
+moved p moves answers s between answer over run is w = record {
   offsets = s.offsets;
-  answers = run.answers;
-  run = run.run;
+  answers = answers;
+  run = run;
   rects = w.rects;
-  tabled = tabled p s between (move_lines moves run.answers) answer w over (is ∙ run.text);
+  tabled = tabled p s between (move_lines moves answers) answer w over is;
   written = w.written;
 }
 
-pub moved_is : (p : Ready) (moves : List Move) (s : SessionValue) (lines between : List ℕ) (result : Result Answer NoMemory) → IsOver p s → HasMoved p moves s lines
-    → between ≡ lines → IfOk result (IsWrittenFor p s between) → IfOk result (IsMovedBy p moves)
-moved_is p moves s lines between (Ok answer) over run is w = moved p moves s lines between answer over run is w
-moved_is p moves s lines between (Err e) over run is w = tt
+pub moved_is : (p : Ready) (moves : List Move) (answers : List Moved) (s : SessionValue) (between : List ℕ) (result : Result Answer NoMemory) → IsOver p s
+    → IsMovesRun (subject_of p) moves s.offsets answers → between ≡ move_lines moves answers → IfOk result (IsWrittenFor p s between) → IfOk result (IsMovedBy p moves)
+moved_is p moves answers s between (Ok answer) over run is w = moved p moves answers s between answer over run is w
+moved_is p moves answers s between (Err e) over run is w = tt
 
 -- ---- the whole of `moves`
 module _ (layout kernels rules moves : List ℕ) where

@@ -1,9 +1,8 @@
 -- What the files and the numbers of scatter bars give for a correction, and the stages in which they are judged.
-use Rattle.std.specs.Prelude.{◌≡◌, ◌⊎◌, ℕ, ℤ, ◌≤ℤ◌, ◌<ℤ◌, ◌-ℤ◌, ◌||◌, Result, Ok, Err, List}
+use Rattle.std.specs.Prelude.{◌≡◌, ◌⊎◌, ℕ, ◌≤ℤ◌, ◌<ℤ◌, ◌-ℤ◌, ◌||◌, Result, Ok, Err, List}
 use Rattle.opc_base.specs.Plane.{PixelSet, cover}
 use Rattle.opc_base.specs.declared.plane.Rect.{Rect}
 use Rattle.opc_base.specs.declared.rules.MaskRules.{MaskRules}
-use Rattle.opc_base.specs.declared.rules.Rules.{Rules}
 use Rattle.assist_bars.specs.Bars.{AreBars, SuitMask}
 use Rattle.assist_bars.specs.declared.bar_rules.BarRules.{BarRules}
 use Rattle.opc_engine.specs.declared.bar_key.BarKey.{BarKey}

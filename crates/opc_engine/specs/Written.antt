@@ -1,5 +1,5 @@
 -- Answers with a mask file, for what is ready.
-use Rattle.std.specs.Prelude.{◌≡◌, ℕ, ℤ, List, ◌≤◌, ◌%◌, length}
+use Rattle.std.specs.Prelude.{◌≡◌, ℕ, ℤ, List, length}
 use Rattle.opc_base.specs.declared.moves.Move.{Move}
 use Rattle.opc_base.specs.declared.moves.Moved.{Moved}
 use Rattle.opc_base.specs.declared.moves.RoundSummary.{RoundSummary}

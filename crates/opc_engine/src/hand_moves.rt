@@ -3,8 +3,9 @@ ghost use Rattle.std.specs.Prelude.{◌≡◌, ◌<◌, ◌≤◌, ◌⊎◌, Al
 ghost use Rattle.opc_session.specs.Scenes.{IsAllowed};
 ghost use Rattle.opc_engine.specs.Corrections.{Moves, PreparesMoves, moves_result, unnamed_line};
 ghost use Rattle.opc_engine.specs.Ready.{CanOpen, subject_of};
-ghost use Rattle.opc_engine.specs.Runs.{unmoved};
-ghost use Rattle.opc_engine.specs.Standing.{HasMoved, IsOver};
+ghost use Rattle.opc_engine.specs.ErrorTable.{move_lines};
+ghost use Rattle.opc_engine.specs.Runs.{IsMovesRun, unmoved};
+ghost use Rattle.opc_engine.specs.Standing.{IsOver};
 ghost use Rattle.opc_engine.specs.Written.{IsMovedBy};
 ghost use Rattle.opc_engine.specs.Wrapped.{HidesNoMemory};
 
@@ -13,7 +14,7 @@ use crate::ready::{Ready, ready_from};
 use crate::written::written;
 use crate::{Answer, EngineFault, MAX_MOVES, Which};
 use error_table::put_move;
-use opc_base::{Bytes, Move, NoMemory, Steps, Watch};
+use opc_base::{Bytes, Move, Moved, NoMemory, Steps, Watch};
 use opc_session::Session;
 use prefix_tables::Tables;
 use rule_file::read_moves;
@@ -31,7 +32,7 @@ pub fn moves<R: Threads + Sync, W: Watch + Sync>(
     kernels: &[u8],
     rules: &[u8],
     moves: &[u8],
-    _watch: &W,
+    watch: &W,
 ) -> Result<Answer, EngineFault>
     ensures answer { IfOk result (Moves layout.now kernels.now rules.now moves.now) }
     ensures refusal { IfErr result (λ fault. (fault ≡ EngineFault.NoMemory)
@@ -40,7 +41,7 @@ pub fn moves<R: Threads + Sync, W: Watch + Sync>(
 {
     let given = ready_from(alloc, layout, kernels, rules)?;
     let list = moves_of(alloc, moves, given.fragments.count())?;
-    Ok(moved(rt, alloc, &given, &list)?)
+    Ok(moved(rt, alloc, &given, &list, watch)?)
 }
 
 /// The moves of a file for so many fragments, or its first refusal: it is too long, has a fault, or names no fragment.
@@ -79,11 +80,12 @@ fn unnamed_line(moves: &[Move], count: u32) -> Option<u32>
 }
 
 /// The answer of `moves` for what is ready.
-fn moved<R: Threads + Sync>(
+fn moved<R: Threads + Sync, W: Watch + Sync>(
     rt: &R,
     alloc: Global,
     given: &Ready,
     moves: &[Move],
+    watch: &W,
 ) -> Result<Answer, NoMemory>
     requires ready { CanOpen given.now }
     requires allowed { All (IsAllowed (length given.now.fragments)) moves.now }
@@ -100,18 +102,22 @@ fn moved<R: Threads + Sync>(
         &weights,
         &given.rules,
     )?;
-    let lines = make_moves::<Brand>(alloc, given, &mut session, moves, Blank::new(1))?;
+    let blank = Blank::new(1);
+    let answers = make_moves::<R, W, Brand>(rt, alloc, given, &mut session, moves, watch, blank)?;
+    let lines = lines_of(alloc, moves, &answers)?;
     written(alloc, given, &session, lines.as_slice())
 }
 
-/// Makes each move in turn, and gives their lines. The steps are counted for no one.
-fn make_moves<L: Ledger>(
+/// Makes each move in turn, and gives their answers. The steps are counted for no one.
+fn make_moves<R: Threads + Sync, W: Watch + Sync, L: Ledger>(
+    rt: &R,
     alloc: Global,
     given: &Ready,
     session: &mut Session<'_>,
     moves: &[Move],
+    watch: &W,
     blank: Blank,
-) -> Result<Bytes, NoMemory>
+) -> Result<Vec<Moved>, NoMemory>
     requires over { IsOver given.now session.old }
     requires unmoved { session.old.offsets ≡ unmoved (subject_of given.now) }
     requires allowed { All (IsAllowed (length given.now.fragments)) moves.now }
@@ -119,13 +125,22 @@ fn make_moves<L: Ledger>(
     requires parts { blank.parts ≡ L.parts }
     requires some { 0 < blank.parts }
     ensures over { IsOver given.now session.new }
-    ensures moves { IfOk result (HasMoved given.now moves.now session.new) }
+    ensures run { IfOk result (λ answers. IsMovesRun (subject_of given.now) moves.now session.new.offsets answers.items) }
 {
     let mut steps: Steps<L> = Steps::new(blank);
+    let mut answers = vec![in alloc; Moved::Done; moves.len()]?;
+    session.move_list(rt, moves, &mut answers, watch, &mut steps);
+    Ok(answers)
+}
+
+/// The line of each move, with its answer.
+fn lines_of(alloc: Global, moves: &[Move], answers: &[Moved]) -> Result<Bytes, NoMemory>
+    requires { length answers.now ≡ length moves.now }
+    ensures { IfOk result (λ lines. lines ≡ move_lines moves.now answers.now) }
+{
     let mut lines = Bytes::from_vec(Vec::new(alloc));
-    for one in moves {
-        let answer = session.move_one(one.fragment, one.delta, &mut steps);
-        put_move(alloc, &mut lines, one, &answer)?;
+    for i in 0..moves.len() {
+        put_move(alloc, &mut lines, &moves[i], &answers[i])?;
     }
     Ok(lines)
 }

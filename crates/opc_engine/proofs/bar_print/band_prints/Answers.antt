@@ -1,4 +1,4 @@
-use Rattle.std.proofs.Common.{SFits, to_z, w32, false, refl, sym, ◌∙◌, rules, arith}
+use Rattle.std.proofs.Common.{SFits, to_z, w32, refl, rules, arith}
 use Rattle.std.proofs.lemmas.Int.{clamps, ints, to_z-of_z}
 use Rattle.opc_engine.proofs.BarPrintLaws.{columns_do_not, columns_print, fits_window, none_in_band, start_left}
 use Rattle.opc_engine.proofs.bar_print.band_prints.Goals as goal

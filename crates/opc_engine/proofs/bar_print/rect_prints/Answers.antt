@@ -1,4 +1,4 @@
-use Rattle.std.proofs.Common.{SFits, to_z, w32, false, refl, sym, ◌∙◌, rules, arith}
+use Rattle.std.proofs.Common.{SFits, to_z, w32, refl, rules, arith}
 use Rattle.std.proofs.lemmas.Int.{clamps, ints, to_z-of_z}
 use Rattle.opc_engine.proofs.BarPrintLaws.{fits_band, none_at_all, rows_do_not, rows_print, start_below}
 use Rattle.opc_engine.proofs.bar_print.rect_prints.Goals as goal

@@ -1,4 +1,4 @@
-use Rattle.std.proofs.Common.{subst, sym, ◌<◌}
+use Rattle.std.proofs.Common.{subst, ◌<◌}
 use Rattle.opc_engine.proofs.BarRunLaws.{totals_from}
 use Rattle.opc_engine.proofs.bar_run.find_totals.Goals as goal
 

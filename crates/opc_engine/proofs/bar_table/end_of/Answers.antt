@@ -1,5 +1,4 @@
-use Rattle.std.proofs.Common.{SFits, w32, w64, ap, ◌∙◌, rules}
-use Rattle.std.proofs.lemmas.Int.{to_z-of_z}
+use Rattle.std.proofs.Common.{ap, ◌∙◌}
 use Rattle.opc_base.specs.Plane.{cover}
 use Rattle.opc_base.specs.declared.rules.Rules.{Rules}
 use Rattle.opc_engine.specs.BarRuns.{own_error}

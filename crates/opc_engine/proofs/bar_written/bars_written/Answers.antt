@@ -1,4 +1,4 @@
-use Rattle.std.proofs.Common.{◌≡◌, SFits, w32, refl, sym, ◌∙◌, rules}
+use Rattle.std.proofs.Common.{◌≡◌, SFits, w32, sym, ◌∙◌, rules}
 use Rattle.std.proofs.Math.Path.{fun_ext}
 use Rattle.std.proofs.lemmas.Int.{to_z-of_z}
 use Rattle.opc_base.specs.Plane.{cover}

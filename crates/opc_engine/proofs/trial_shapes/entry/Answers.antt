@@ -1,4 +1,4 @@
-use Rattle.std.proofs.Common.{◌≡◌, sym, ap, ◌∙◌}
+use Rattle.std.proofs.Common.{sym, ap, ◌∙◌}
 use Rattle.opc_engine.specs.TrialShapes.{entry_of}
 use Rattle.opc_engine.proofs.TrialInputLaws.{slope-is}
 use Rattle.opc_engine.proofs.trial_shapes.entry.Goals as goal
